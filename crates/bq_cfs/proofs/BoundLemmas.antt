@@ -17,6 +17,7 @@ weaker_of_each P Q f (x ∷ xs) h = (f x h.0, weaker_of_each P Q f xs h.1)
 
 -- The least v
 
+-- the former of a task and one of least v has the least v of all
 least_of_two : (x m : Task) (xs : List Task) (b : Bool) → runs_before m x ≡ b → NoneBelow m.v xs → NoneBelow (cond b m x).v (x ∷ xs)
 least_of_two x m xs true e h = (grind (arith, nat_tests), h)
 least_of_two x m xs false e h =

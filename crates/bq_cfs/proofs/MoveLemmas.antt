@@ -25,6 +25,7 @@ each-inserted P t (x ∷ xs) p h =
       | false ↦ (h.0, each-inserted P t xs p h.1)
     ]
 
+-- what holds of each task holds of the one that is found, whether it is the first or a later one
 found_by_test : (P : Task → Type 0) (b : Bool) (x : Task) (o : Option Task) → P x → IfSome o P → IfSome (cond b (Some x) o) P
 found_by_test P true x o p h = p
 found_by_test P false x o p h = h
@@ -38,6 +39,7 @@ each-find_task P i (x ∷ xs) h = found_by_test P (eqb x.id i) x (find_task i xs
 pub distinct-started : (m : Task) (q : List Task) → HasDistinctIds q → HasDistinctIds (m ∷ without m.id q)
 distinct-started m q d = (find_task-without_same m.id q d, HasDistinctIds-without m.id q d)
 
+-- a task of the queue has another id than a task whose id none of the queue has
 another : (u m : Task) (q : List Task) (b : Bool) → eqb u.id m.id ≡ b → find_task u.id q ≡ None → find_task m.id q ≡ Some m
     → eqb u.id m.id ≡ false
 another u m q true e n s =

@@ -8,6 +8,7 @@ use Rattle.bq_disc.specs.OneProcessor.{present_at}
 use Rattle.bq_cfs.specs.Spread.{BeginsWithin, bound}
 use Rattle.bq_cfs.proofs.BoundLemmas.{bound-least}
 
+-- if no task present is beyond V, the task that runs is within the bound
 current_begins : (V : ℕ) (o : Option Task) (q : List Task) → All (λ t. t.v ≤ V) (present o q) → IfSome o (λ t. t.v ≤ bound V (present o q))
 current_begins V None q h = tt
 current_begins V (Some t) q h = omega (arith, All-head (λ (s : Task). s.v ≤ V) t q h, bound-least V (t ∷ q))

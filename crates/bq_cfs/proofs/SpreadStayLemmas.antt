@@ -77,6 +77,7 @@ least_is_found x xs d =
 abbrev pub idle_processor : List Task → ℕ → ℕ → Running
 idle_processor q mark last = record { queue = q; mark = mark; current = None; last = last }
 
+-- a task of the queue starts where none ran, and the processor keeps what the law promises, by cases: least v, choice
 started_stays : (V d n mark last : ℕ) (q : List Task) (m : Task)
     → find_task m.id q ≡ Some m → HasDistinctIds q → AllByRecursion (IsLevel V d n) q → NoneBelow m.v q
     → Stays V d (run_id (idle_processor q mark last) (Some m.id))
@@ -110,11 +111,13 @@ near_each n (x ∷ xs) e =
     let le : n ≤ m.v + 1000000 = grind (arith, nat_tests) in
     weaker_of_each (λ (t : Task). m.v ≤ t.v) (λ (t : Task). n ≤ t.v + 1000000) (λ t k. omega arith) (x ∷ xs) (none_below_least x xs)
 
+-- the processor keeps it too if the current task runs on by the rule
 kept_stays : (V d n mark last : ℕ) (q : List Task) (u : Task)
     → HasDistinctIds (u ∷ q) → AllByRecursion (IsLevel V d n) (u ∷ q) → own_preempt cfs q (Some u) ≡ false
     → Stays V d (busy_processor q mark u last)
 kept_stays V d n mark last q u distinct h e = stays V d n (busy_processor q mark u last) distinct h (omega arith, near_each u.v q e)
 
+-- if the queue's task comes before the current one, it is next whatever the test of the ids says
 next_by_test : (a u : Task) (b c : Bool) → b ≡ true → cond c a.id (cond b a u).id ≡ a.id
 next_by_test a u true true e = refl
 next_by_test a u true false e = refl
@@ -127,6 +130,7 @@ next_is_least u x xs lt =
     let before : runs_before m u ≡ true = grind (arith, nat_tests) in
     next_by_test m u (runs_before m u) (eqb (cond (runs_before m u) m u).id u.id) before
 
+-- the processor keeps it if the current task and the queue's task of least v change places
 exchanged_stays : (V d n mark last next : ℕ) (q : List Task) (u m : Task)
     → next ≡ m.id → find_task m.id q ≡ Some m → HasDistinctIds (u ∷ q) → AllByRecursion (IsLevel V d n) (u ∷ q)
     → NoneBelow m.v q → m.v ≤ u.v
@@ -143,6 +147,7 @@ exchanged_stays V d n mark last next q u m chosen found distinct h none le =
           (each-without near m.id q (weaker_of_each (λ (t : Task). m.v ≤ t.v) near (λ t k. omega arith) q none)),
     ))
 
+-- it keeps it if the current task gives way by the rule, and so whatever the rule decides
 switched_stays : (V d n mark last : ℕ) (q : List Task) (u : Task)
     → HasDistinctIds (u ∷ q) → AllByRecursion (IsLevel V d n) (u ∷ q) → own_preempt cfs q (Some u) ≡ true
     → Stays V d (switched cfs (busy_processor q mark u last) (Some u))

@@ -17,6 +17,7 @@ read_high [] (suc j) d = refl
 read_high (x ∷ xs) zero d = refl
 read_high (x ∷ xs) (suc j) d = read_high xs j d
 
+-- to write the beginning of the second part is to write the whole list at the cut
 set_high : {X : Type 0} (xs : List X) (j : ℕ) (b : X) → take j xs ++ set (drop j xs) 0 b ≡ set xs j b
 set_high [] zero b = refl
 set_high [] (suc j) b = refl

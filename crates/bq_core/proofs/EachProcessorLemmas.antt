@@ -57,6 +57,7 @@ opening_well = record { rising = tt; ready = none }
 
 -- Queues
 
+-- a queue goes on to rise as a task begins to run, and as the current task gives way, by cases: to a task, to the next one
 rising_run : (p : Running) (o : Option ℕ) → IsRising p.queue → IsRising (run_id p o).queue
 rising_run p None h = h
 rising_run p (Some id) h = IsRising-without id p.queue h
@@ -69,6 +70,7 @@ rising_switched : (d : Discipline) (p : Running) (o : Option Task) → IsRising 
 rising_switched d p None h = h
 rising_switched d p (Some t) h = rising_exchanged p t (find_task (next_of d t p.queue) p.queue) h
 
+-- it does so as its choice starts, and however it is decided who runs
 rising_start : (d : Discipline) (p : Running) → IsRising p.queue → IsRising (choice_started d p).queue
 rising_start d p h = rising_run p (id_of (d.choice p.queue)) h
 
@@ -78,6 +80,7 @@ rising_decided d p None b h = rising_start d p h
 rising_decided d p (Some t) true h = rising_switched d p (Some t) h
 rising_decided d p (Some t) false h = h
 
+-- it does so as tasks enter, as one is pulled into it, and as its choice starts if nothing runs
 rising_entered : (d : Discipline) (mark : ℕ) (queue tasks : List Task) → IsRising queue → IsRising (entered d mark queue tasks)
 rising_entered d mark queue [] h = h
 rising_entered d mark queue (t ∷ tasks) h =
@@ -91,6 +94,7 @@ rising_started : (d : Discipline) (p : Running) (o : Option Task) → IsRising p
 rising_started d p None h = rising_start d p h
 rising_started d p (Some t) h = h
 
+-- it does so as a task is taken out of it
 rising_taken : (p : Running) (task : Option ℕ) → IsRising p.queue → IsRising (without_task p task).queue
 rising_taken p None h = h
 rising_taken p (Some id) h = IsRising-without id p.queue h
@@ -121,6 +125,7 @@ settled_stands s hook (Some p) context attached now processor permitted own sett
     let had : IsEquipped (Some p) attached.maps = subst (λ (o : Option Accepted). IsEquipped o attached.maps) is m.1 in
     rw h.leaves (m.0, subst (λ (o : Option Accepted). IsEquipped o h.maps) (sym is) (had.0, h.shapes))
 
+-- what is left at the preempt hook by a decision may stand there
 preempt_stands : (s : PolicySemantics) (processor : ℕ) (p : Processor) (o : Option Task) (settled : SettledChoice)
     → SettlesPreempt s processor p o settled → AreReady p.hooks → MayBeAttached Preempt settled.attached
 preempt_stands s processor p None settled h ready = rw h (ready Preempt)
@@ -130,6 +135,7 @@ preempt_stands s processor p (Some t) settled h ready =
 
 -- Processors
 
+-- a decision leaves a processor well
 decides_well : (s : PolicySemantics) (processor : ℕ) (p : Processor) (settled : SettledChoice) (q : Processor)
     → Decides s processor p settled q → IsWell p → IsWell q
 decides_well s processor p settled q h well =

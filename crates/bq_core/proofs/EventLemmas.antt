@@ -158,6 +158,7 @@ block_tidy d count w processor now t y l e =
     let fits = suits_of count processor t (omega (arith, left (unsuited count processor), y.present processor)) in
     enters_lobby count (with_processor w processor q) t (as_it_leaves p.running processor t) free refl fits.place
 
+-- the task of an id that may go to a processor, if the queue has it, suits that processor
 taken_by_cases : (count processor from id : ℕ) (p : Running) (o : Option Task)
     → tally (unsuited count from) (present_at p) ≡ 0 → is_movable_to processor id p.queue ≡ true → find_task id p.queue ≡ o
     → tally (unsuited count processor) (option_to_list (option_map (left_at p.mark) o)) ≡ 0

@@ -1,4 +1,4 @@
--- What an Install tells whose arguments nothing refuses.
+-- What is known of an Install whose arguments are not refused: its processor is there, and its policy is for the hook.
 use Rattle.std.proofs.Common.{◌≡◌, ℕ, ◌<◌, true, Option, Some, None, refl}
 use Rattle.std.specs.Prelude.{not}
 use Rattle.std.proofs.lemmas.Bool.{not-false}
@@ -23,6 +23,7 @@ one_hook Pull Place h = cc
 one_hook Pull Preempt h = cc
 one_hook Pull Pull h = refl
 
+-- a policy, or none, that passes the test for a hook was verified for that hook
 for_by_case : (h : Hook) (o : Option Accepted) → is_for h o ≡ true → IsFor h o
 for_by_case h None e = tt
 for_by_case h (Some p) e = one_hook h p.hook e

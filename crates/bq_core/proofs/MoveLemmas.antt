@@ -17,6 +17,7 @@ tally-after_leaving g d p t e =
     let was : tally g (present_at p) ≡ worth g t + tally g p.queue = ap (λ o. tally g (present o p.queue)) e in
     omega (arith, was, tally-start g d rest refl)
 
+-- the task that is taken from a queue, if it is there, and those that stay are those of the queue
 taken_by_case : (g : ℕ → ℕ → ℕ) (id : ℕ) (p : Running) (o : Option Task)
     → find_task id p.queue ≡ o
     → tally g (without id p.queue) + tally g (option_to_list (option_map (left_at p.mark) o)) ≡ tally g p.queue

@@ -1,4 +1,4 @@
--- Where the counters answer alike, and memory is not wanting, two steps by one event from one world are one.
+-- If the counters answer alike and memory does not run out, two steps by one event from one world are one.
 use Rattle.std.proofs.Common.{◌≡◌, ℕ, ◌^◌, ◌<◌, Bool, List, Option, Some, None, refl, sym, subst, ap, ◌∙◌, length, arith, inl, inr}
 use Rattle.std.specs.Prelude.{Result, Ok, Err, unwrap_or}
 use Rattle.bq_disc.specs.Tasks.{Task}
@@ -37,10 +37,12 @@ use Rattle.bq_core.specs.Laws.{HadMemory, StepIsOne}
 
 -- Choices
 
+-- the context of a placement has fewer than 2^16 bytes
 place_small : (f : PlaceFacts) (version : Version) → length (place_bytes f version) < 2 ^ 16
 place_small f First = omega (arith, length-place_bytes_first f)
 place_small f Second = omega (arith, length-place_bytes_second f)
 
+-- settled choices with equal parts are equal
 same_settled : (x y : SettledChoice) → x.choice ≡ y.choice → x.by ≡ y.by → x.steps ≡ y.steps → x.calls ≡ y.calls
     → x.attached ≡ y.attached
     → x ≡ y
@@ -52,6 +54,7 @@ same_settled x y choice by steps calls attached =
     ∙ ap (λ p. record y { attached = p }) attached
 
 module _ (d : Discipline) where
+  -- what is settled twice at a hook, on one context, is one if the counters answer alike, by hooks: any, preempt, place, pull
   settles_one : (policy : Option Accepted) (context : Version → List ℕ) (attached : Attached) (now processor : ℕ)
       (permitted : ℕ → Bool) (own : ℕ) (x y : SettledChoice)
       → ((version : Version) → length (context version) < 2 ^ 16)
@@ -110,6 +113,7 @@ module _ (d : Discipline) where
       settles_one p.hooks.pull.policy (λ version. pull_bytes facts) p.hooks.pull p.running.last processor
       (may_pull processor queue) (or_nobody own) x y (λ version. omega (arith, length-pull_bytes facts)) h k alike
 
+  -- two decisions about one processor, if the counters answer alike, are one and leave one processor
   decides_one : (processor : ℕ) (p : Processor) (x y : SettledChoice) (q q' : Processor)
       → Decides (by_programs d) processor p x q → Decides (by_programs d) processor p y q' → AnswerAlike x.calls y.calls
       → (x ≡ y) × (q ≡ q')
@@ -126,6 +130,7 @@ module _ (d : Discipline) where
       subst (λ (c : List CounterCall). AnswerAlike x.calls c) f
       (subst (λ (c : List CounterCall). AnswerAlike c calls') e alike)
 
+  -- if the counters answer alike, two Ticks of one processor, and two Drains, have one reply, leave one processor and ask the same
   ticks_one : (processor now : ℕ) (p : Processor) (calls calls' : List CounterCall) (r r' : Reply) (q q' : Processor)
       → Ticks (by_programs d) processor now p calls r q → Ticks (by_programs d) processor now p calls' r' q'
       → AnswerAlike calls calls'
@@ -143,12 +148,14 @@ module _ (d : Discipline) where
       let same = decides_one processor _ h.0 k.0 q q' h.1 k.1 (alike_settled calls calls' h.0 k.0 h.2 k.2 alike) in
       (h.3 ∙ rw (same.0, same.1) refl ∙ sym k.3, same.1, h.2 ∙ ap (λ (x : SettledChoice). x.calls) same.0 ∙ sym k.2)
 
+  -- what is there is one, and so is the task that sleeps in an entry
   some_one : {X : Type 0} (x y : X) (o : Option X) → o ≡ Some x → o ≡ Some y → x ≡ y
   some_one x y o e f = cc
 
   blocked_one : (t u : Task) (s : LobbyEntry) → s ≡ Sleeping t → s ≡ Sleeping u → t ≡ u
   blocked_one t u s e f = cc
 
+  -- two Blocks, and two beginnings of a wake, from the same parts have one reply and leave the same parts
   blocks_one : (processor now : ℕ) (p : Processor) (lobby : List LobbyEntry) (r r' : Reply) (q q' : Processor)
       (left left' : List LobbyEntry)
       → Blocks d processor now p lobby (Ok r) q left → Blocks d processor now p lobby (Ok r') q' left'
@@ -166,6 +173,7 @@ module _ (d : Discipline) where
       let task = blocked_one h.task k.task _ h.sleeps k.sleeps in
       (h.replies ∙ sym k.replies, h.in_hand ∙ rw task refl ∙ sym k.in_hand, h.away ∙ sym k.away)
 
+  -- if the counters answer alike, two placements from one processor are one, leave one processor and ask the same
   places_one : (count processor now : ℕ) (p : Processor) (calls calls' : List CounterCall)
       (x x' : Placement) (q q' : Processor)
       → Places (by_programs d) count processor now p calls (Some x) q
@@ -192,6 +200,7 @@ module _ (d : Discipline) where
           ap (λ t. record x { task = t }) task ∙ ap (λ n. record x { task = y.task; to = n }) to
           ∙ ap (λ b. record x { task = y.task; to = y.to; by = b }) by ∙ ap (λ n. record y { steps = n }) steps
 
+  -- if the counters answer alike, two pulls from the same two processors have one reply, leave the same two and ask the same
   pulls_one : (processor from now : ℕ) (p o : Processor) (calls calls' : List CounterCall) (r r' : Reply)
       (q q' u u' : Processor)
       → Pulls (by_programs d) processor from now p o calls r q u
@@ -210,6 +219,7 @@ module _ (d : Discipline) where
 
   -- Events
 
+  -- if the counters answer alike, an event that is done twice from one world has one reply, leaves one world and asks the same
   performs_one : (w : World) (e : Event) (calls calls' : List CounterCall) (r r' : Reply) (u u' : World)
       → Performs (by_programs d) w e calls r u → Performs (by_programs d) w e calls' r' u' → AnswerAlike calls calls'
       → (r ≡ r') × (u ≡ u') × (calls ≡ calls')
@@ -243,9 +253,11 @@ module _ (d : Discipline) where
       → WorldStep (by_programs d) w e calls (Err r) u → HadMemory (Err r) → refusal w e ≡ Some r
   refused w e calls r u h some = elim h.2 [ inl f ↦ f | inr f ↦ absurd (some f.2) ]
 
+  -- an event is not both done and refused
   not_both : (o : Option Refusal) (r : Refusal) → o ≡ None → o ≡ Some r → ⊥
   not_both o r e f = cc
 
+  -- if the counters answer alike and memory does not run out, two steps by one event from one world are one, done or refused
   step_one : (w : World) (e : Event) (calls calls' : List CounterCall) (a a' : Result Reply Refusal) (u u' : World)
       → WorldStep (by_programs d) w e calls a u → WorldStep (by_programs d) w e calls' a' u' → HadMemory a
       → HadMemory a' → AnswerAlike calls calls'

@@ -1,4 +1,4 @@
--- Runs of events, one step after another.
+-- Runs of events, one step after another: a run and one more step are a run.
 use Rattle.std.proofs.Common.{List, [], ◌∷◌, ◌++◌, refl, subst}
 use Rattle.std.specs.Prelude.{Result}
 use Rattle.bq_bpf.specs.declared.board.CounterCall.{CounterCall}

@@ -1,4 +1,4 @@
--- Steps of the world, from what the code computes.
+-- From what the code computes to steps of the world: the parts that it borrows and writes back.
 use Rattle.std.proofs.Common.{◌≡◌, ℕ, ◌<◌, ◌++◌, false, List, [], length, get_or, take, drop, Option, Some, None, refl, ap, sym, ◌∙◌, append-nil, arith, inl}
 use Rattle.std.specs.Prelude.{Err, nat_le, is_none}
 use Rattle.std.specs.Option.{option_map}

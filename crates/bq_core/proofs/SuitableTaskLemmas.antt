@@ -40,6 +40,7 @@ suits_of count processor t h =
 pub of_suits : (count processor : ℕ) (t : Task) → can_use processor t ≡ true → HasPlace count t → worth (unsuited count processor) t ≡ 0
 of_suits count processor t e h = rw (e, lt-ltb t.mask (2 ^ count) h.0, ne_eqb t.mask 0 h.1) refl
 
+-- of tasks that may use the processor and have a place, taken one after another, none is unsuited
 unsuited_by_recursion : (count processor : ℕ) (xs : List Task)
     → AllByRecursion (λ t. can_use processor t ≡ true) xs → AllByRecursion (HasPlace count) xs
     → tally (unsuited count processor) xs ≡ 0
@@ -55,6 +56,7 @@ none_unsuited count processor xs h k =
     unsuited_by_recursion count processor xs (recursion_from_All (λ t. can_use processor t ≡ true) xs h)
     (recursion_from_All (HasPlace count) xs k)
 
+-- where none is unsuited the processor suits each task, taken one after another
 suits_by_recursion : (count processor : ℕ) (xs : List Task) → tally (unsuited count processor) xs ≡ 0
     → AllByRecursion (Suits count processor) xs
 suits_by_recursion count processor [] h = tt

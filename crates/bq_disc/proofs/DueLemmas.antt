@@ -1,9 +1,10 @@
--- When the first of some tasks is due.
+-- When the first of some tasks is due: its deadline, with one more task.
 use Rattle.std.proofs.Common.{◌≡◌, true, false, cond, List, ◌∷◌, Option, Some, None, refl, ap}
 use Rattle.std.specs.Option.{option_map}
 use Rattle.bq_disc.specs.Tasks.{Task, first_by, former}
 use Rattle.bq_disc.specs.Dues.{due_of, first_due, earliest_of, due_before}
 
+-- the deadline of the former of two tasks is the earlier of their deadlines
 due_of_former : (x : Task) (o : Option Task) → due_of (former due_before x o) ≡ earliest_of (due_of x) (option_map due_of o)
 due_of_former x None = refl
 due_of_former x (Some y) =

@@ -19,6 +19,7 @@ last_id (x ∷ xs) = Some (unwrap_or (last_id xs) x.id)
 abbrev AfterAll : Task → Option Task → Type 0
 AfterAll x o = IfSome o (λ y. runs_before y x ≡ false)
 
+-- if neither of two tasks runs before x, the earlier to be pulled does not either, by cases: of two, of one and perhaps another
 after_by_test : (b : Bool) (x y z : Task) → runs_before y x ≡ false → runs_before z x ≡ false → runs_before (cond b z y) x ≡ false
 after_by_test true x y z p q = q
 after_by_test false x y z p q = p
@@ -27,13 +28,16 @@ after_former : (x y : Task) (o : Option Task) → runs_before y x ≡ false → 
 after_former x y None p q = p
 after_former x y (Some z) p q = after_by_test (pulled_before z y) x y z p q
 
+-- if no task of a list runs before x, the first to be pulled of the list does not
 after_all : (x : Task) (xs : List Task) → NoneRunsBefore x xs → AfterAll x (first_by pulled_before xs)
 after_all x [] h = tt
 after_all x (y ∷ xs) h = after_former x y (first_by pulled_before xs) h.0 (after_all x xs h.1)
 
+-- two tasks of which neither runs before the other have the same id
 same_id : (x y : Task) → runs_before x y ≡ false → runs_before y x ≡ false → x.id ≡ y.id
 same_id x y p q = grind (arith, nat_tests)
 
+-- of x and a task that does not run before it, the first to be pulled has the latter's id, by cases: one, at most one
 last_by_test : (b : Bool) (x y : Task) → runs_before x y ≡ b → runs_before y x ≡ false → (cond b y x).id ≡ y.id
 last_by_test true x y e h = refl
 last_by_test false x y e h = same_id x y e h
@@ -48,6 +52,7 @@ first_is_last [] h = refl
 first_is_last (x ∷ xs) h =
     ap Some (last_former x (first_by pulled_before xs) (after_all x xs h.0) ∙ ap (λ o. unwrap_or o x.id) (first_is_last xs h.1))
 
+-- if no task of a list runs before x, none of those that pass a test does
 none_filter : (p : Task → Bool) (x : Task) (xs : List Task) → NoneRunsBefore x xs → NoneRunsBefore x (filter p xs)
 none_filter p x [] h = tt
 none_filter p x (y ∷ xs) h =
@@ -56,6 +61,7 @@ none_filter p x (y ∷ xs) h =
       | false ↦ none_filter p x xs h.1
     ]
 
+-- of tasks by rising (v, id), those that pass a test are by rising (v, id) too
 rising_filter : (p : Task → Bool) (xs : List Task) → IsRising xs → IsRising (filter p xs)
 rising_filter p [] h = tt
 rising_filter p (x ∷ xs) h =
@@ -64,14 +70,17 @@ rising_filter p (x ∷ xs) h =
       | false ↦ rising_filter p xs h.1
     ]
 
+-- the first number of a list with one more at its end is the list's own first, or that one if the list is empty
 front_append : (ns : List ℕ) (n : ℕ) → slice_get (ns ++ n ∷ []) 0 ≡ Some (unwrap_or (slice_get ns 0) n)
 front_append [] n = refl
 front_append (m ∷ ns) n = refl
 
+-- the first eight of some ids begin with the same id
 front_take : (ns : List ℕ) → slice_get (take 8 ns) 0 ≡ slice_get ns 0
 front_take [] = refl
 front_take (n ∷ ns) = refl
 
+-- the first id of the reversed tasks is the last id of the tasks
 front_reverse : (xs : List Task) → slice_get (ids (reverse xs)) 0 ≡ last_id xs
 front_reverse [] = refl
 front_reverse (x ∷ xs) =

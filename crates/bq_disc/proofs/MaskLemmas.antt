@@ -1,4 +1,4 @@
--- The processors of a mask.
+-- A mask of 64 bits allows no processor beyond them.
 use Rattle.std.proofs.Common.{◌≡◌, ℕ, ◌/◌, ◌%◌, ◌^◌, ◌<◌, ◌≤◌, false, ap, arith}
 use Rattle.std.specs.Prelude.{◌==◌}
 use Rattle.std.proofs.Math.Nat.{pow-le-pow_right}

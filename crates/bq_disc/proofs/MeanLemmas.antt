@@ -1,4 +1,4 @@
--- The task of least v is at most the mean, so some task is.
+-- The task of least v is at most the mean of all, so at least one task is at most the mean.
 use Rattle.std.proofs.Common.{◌≡◌, ◌≢◌, ℕ, ◌*◌, ◌≤◌, ◌<◌, Bool, true, false, cond, List, [], ◌∷◌, filter, refl, nat_le, arith, zero, suc, length, slice_index_or, ap, ◌∙◌}
 use Rattle.std.specs.Prelude.{Contains}
 use Rattle.std.proofs.Math.Nat.{mul-le-mul_left}
@@ -18,13 +18,16 @@ least_under_average m (t ∷ xs) h =
 pub least_at_most_mean : (xs : List Task) (t : Task) → NoneBelow t.v xs → is_at_most_mean (total_weight xs) (weighted_sum xs) t ≡ true
 least_at_most_mean xs t h = let le = least_under_average t.v xs h in grind (arith, nat_tests)
 
+-- if no task's v is below n, none is below a lesser m
 weaker : (m n : ℕ) (xs : List Task) → m ≤ n → NoneBelow n xs → NoneBelow m xs
 weaker m n [] l h = tt
 weaker m n (t ∷ xs) l h = (omega (arith, h.0), weaker m n xs l h.1)
 
+-- some task of the list has the least v
 abbrev HasLeast : List Task → Type 0
 HasLeast xs = (t : Task) × Contains xs t × NoneBelow t.v xs
 
+-- of the task of least v of a list and one more task, that of the lesser v has the least v of all
 of_two : (x : Task) (ys : List Task) (t : Task) → Contains ys t → NoneBelow t.v ys → (b : Bool) → nat_le x.v t.v ≡ b → HasLeast (x ∷ ys)
 of_two x ys t c l true e =
     let le : x.v ≤ t.v = grind (arith, nat_tests) in
@@ -33,16 +36,19 @@ of_two x ys t c l false e =
     let le : t.v ≤ x.v = grind (arith, nat_tests) in
     (t, Contains-later x t ys c, (le, l))
 
+-- in a list that is not empty, some task has the least v
 has_least : (x : Task) (xs : List Task) → HasLeast (x ∷ xs)
 has_least x [] = (x, Contains-first x [], (omega arith, tt))
 has_least x (y ∷ xs) =
     let rest = has_least y xs in
     of_two x (y ∷ xs) rest.0 rest.1 rest.2 (nat_le x.v rest.0.v) refl
 
+-- if a task is kept, or some of the rest are, the list of those kept is not empty
 kept_by_test : (b : Bool) (x : Task) (ys : List Task) → (b ≡ false → ys ≢ []) → cond b (x ∷ ys) ys ≢ []
 kept_by_test true x ys h = λ e. cc
 kept_by_test false x ys h = h refl
 
+-- if a task of the list passes the test, the list of those that pass is not empty
 kept_by_filter : (p : Task → Bool) (xs : List Task) (t : Task) (k : ℕ)
     → k < length xs → slice_index_or xs k t ≡ t → p t ≡ true → filter p xs ≢ []
 kept_by_filter p [] t k l e pt = λ f. absurd (omega (arith, l))

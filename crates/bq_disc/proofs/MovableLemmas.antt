@@ -1,4 +1,4 @@
--- What is found of two parts of a queue, one after the other.
+-- Which tasks of a queue may go to a processor, of two parts of the queue one after the other: the later part comes first.
 use Rattle.std.proofs.Common.{◌≡◌, ℕ, zero, suc, ◌+◌, ◌≤◌, Bool, true, false, cond, List, [], ◌∷◌, ◌++◌, length, take, filter, reverse, length-append, append_assoc, refl, ap, sym, ◌∙◌, arith}
 use Rattle.std.proofs.lemmas.List.{length-reverse, reverse-append, map-append, take-append-le}
 use Rattle.std.proofs.lemmas.List.Elements.{filter-append}
@@ -7,17 +7,20 @@ use Rattle.bq_disc.specs.Queues.{can_use}
 use Rattle.bq_disc.specs.Movable.{movable_to, ids, AddsMovable}
 use Rattle.bq_disc.specs.declared.movable.Movable.{Movable}
 
+-- of two parts of a queue, the tasks that may go are those of the later part, then those of the earlier one
 movable_to-append : (processor : ℕ) (xs ys : List Task)
     → movable_to processor (xs ++ ys) ≡ movable_to processor ys ++ movable_to processor xs
 movable_to-append processor xs ys =
     ap reverse (filter-append (can_use processor) xs ys)
     ∙ reverse-append (filter (can_use processor) xs) (filter (can_use processor) ys)
 
+-- the first n of a list that was already cut to n, with more behind it, are the first n of the whole
 take_again : (n : ℕ) (xs ys : List ℕ) → take n (take n xs ++ ys) ≡ take n (xs ++ ys)
 take_again zero xs ys = refl
 take_again (suc n) [] ys = refl
 take_again (suc n) (x ∷ xs) ys = ap (λ l. x ∷ l) (take_again n xs ys)
 
+-- the first n of a list no longer than n are all of it
 take_short : (n : ℕ) (xs : List ℕ) → length xs ≤ n → take n xs ≡ xs
 take_short zero [] h = refl
 take_short zero (x ∷ xs) h = absurd (omega arith)
@@ -57,6 +60,7 @@ Adds-append processor xs ys a b c h k =
       fits = k.fits;
     }
 
+-- no more tasks pass a test than there are, by cases: one task, a list
 kept_by_test : (b : Bool) (x : Task) (xs ys : List Task) → length ys ≤ length xs → length (cond b (x ∷ ys) ys) ≤ length (x ∷ xs)
 kept_by_test true x xs ys h = omega arith
 kept_by_test false x xs ys h = omega arith

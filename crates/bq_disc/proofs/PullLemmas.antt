@@ -13,6 +13,7 @@ use Rattle.bq_disc.proofs.SetLemmas.{IsOrder, first_by-same, first_by-least, IfS
 use Rattle.bq_disc.proofs.SameSumLemmas.{HasDistinctIds-filter, Contains-filter, filter-Contains, SameSet-filter}
 use Rattle.bq_disc.proofs.GreatestLemmas.{greatest_named}
 
+-- the test whether the source has at least two tasks more than the puller, both ways
 two_more : (puller_size source_size : ℕ) → puller_size + 2 ≤ source_size → nat_le (puller_size + 2) source_size ≡ true
 two_more puller_size source_size l = grind (arith, nat_tests)
 
@@ -26,6 +27,7 @@ pub pulls_first_named : (processor puller_size source_size : ℕ) (queue : List 
 pulls_first_named processor puller_size source_size queue named l h e =
     rw (two_more puller_size source_size (omega (arith, l))) (greatest_named processor queue named h e)
 
+-- to compare tasks by greatest (v, id) first is an order
 pulled_before-IsOrder : IsOrder pulled_before
 pulled_before-IsOrder = record {
   one_way = λ a b h. grind (arith, nat_tests);
@@ -33,6 +35,7 @@ pulled_before-IsOrder = record {
   apart = λ a b h k. grind (arith, nat_tests);
 }
 
+-- a list that contains a task is not empty
 not_empty : (xs : List Task) (t : Task) → Contains xs t → xs ≢ []
 not_empty [] t c e = omega (arith, c.1)
 not_empty (x ∷ xs) t c e = cc
@@ -42,12 +45,14 @@ if_pulled : (b : Bool) (o : Option Task) (P : Task → Type 0) → IfSome o P �
 if_pulled true o P h = h
 if_pulled false o P h = tt
 
+-- a task is pulled only if the source has at least two tasks more than the puller
 if_enough : (b : Bool) (puller_size source_size : ℕ) (o : Option Task) → nat_le (puller_size + 2) source_size ≡ b
     → IfSome (if b then o else None) (λ t. puller_size + 2 ≤ source_size)
 if_enough true puller_size source_size None e = tt
 if_enough true puller_size source_size (Some t) e = are_two_more puller_size source_size e
 if_enough false puller_size source_size o e = tt
 
+-- the first movable task to be pulled is one of the queue and may use the processor
 first_movable : (processor : ℕ) (queue : List Task)
     → IfSome (first_by pulled_before (movable processor queue)) (λ t. Contains queue t × (can_use processor t ≡ true))
 first_movable processor queue =
@@ -55,6 +60,7 @@ first_movable processor queue =
     (λ t. Contains queue t × (can_use processor t ≡ true)) (Contains-filter (can_use processor) queue)
     (first_by-member pulled_before (movable processor queue))
 
+-- no movable task of the queue has a greater (v, id) than the first to be pulled
 none_greater : (processor : ℕ) (queue : List Task)
     → IfSome (first_by pulled_before (movable processor queue))
     (λ t. (u : Task) → Contains queue u → can_use processor u ≡ true → runs_before t u ≡ false)

@@ -1,4 +1,4 @@
--- What a queue keeps when a task comes or goes.
+-- What a queue keeps when a task comes or goes: distinct ids and ids of 16 bits; and that it is longer or shorter by one.
 use Rattle.std.proofs.Common.{◌≡◌, ℕ, suc, ◌+◌, ◌<◌, ◌≤◌, ◌^◌, Bool, true, false, cond, ◌||◌, eqb, List, [], ◌∷◌, length, Option, Some, None, refl, ap, ◌∙◌, arith, eqb-true}
 use Rattle.std.specs.Prelude.{IsSome}
 use Rattle.std.specs.List.{list_any, AllByRecursion, IsDistinct}
@@ -21,17 +21,20 @@ cond_none false x o h = (refl, h)
 pub find_task-none : (i : ℕ) (x : Task) (xs : List Task) → find_task i (x ∷ xs) ≡ None → (eqb x.id i ≡ false) × (find_task i xs ≡ None)
 find_task-none i x xs h = cond_none (eqb x.id i) x (find_task i xs) h
 
+-- if no task has an id, each id of the list differs from it
 apart : (i : ℕ) (xs : List Task) → find_task i xs ≡ None → AllByRecursion (λ y. eqb i y ≡ false) (ids xs)
 apart i [] h = tt
 apart i (x ∷ xs) h =
     let s = find_task-none i x xs h in
     (eqb_comm x.id i s.0, apart i xs s.1)
 
+-- no two of the ids of tasks with distinct ids are equal
 distinct : (xs : List Task) → HasDistinctIds xs → IsDistinct eqb (ids xs)
 unfolding IsDistinct
 distinct [] d = tt
 distinct (x ∷ xs) d = (apart x.id xs d.0, distinct xs d.1)
 
+-- each id of tasks with ids of 16 bits is below 2^16, by cases: the first task's id, any of the list
 small_at : (q i : ℕ) (c b : Bool) → eqb q i ≡ b → i < 2 ^ 16 → (b || c) ≡ true → (c ≡ true → q < 2 ^ 16) → q < 2 ^ 16
 small_at q i c true e l k rest = grind (arith, nat_tests)
 small_at q i c false e l k rest = rest k
@@ -114,6 +117,7 @@ HasSmallIds-without j (x ∷ xs) d =
       | false ↦ (d.0, HasSmallIds-without j xs d.1)
     ]
 
+-- a list without one of its tasks is one shorter, whether the task is the first or a later one
 length_by_test : (b : Bool) (x : Task) (xs ys : List Task) (o : Option Task)
     → IsSome (cond b (Some x) o) → (IsSome o → length ys + 1 ≡ length xs)
     → length (cond b xs (x ∷ ys)) + 1 ≡ length (x ∷ xs)
@@ -132,6 +136,7 @@ without-absent j (x ∷ xs) h =
     let s = find_task-none j x xs h in
     rw s.0 (ap (λ ys. x ∷ ys) (without-absent j xs s.1))
 
+-- once the task of an id is taken, none of that id is there, whether it was the first or a later one
 gone_by_test : (i : ℕ) (b : Bool) (x : Task) (xs ys : List Task)
     → eqb x.id i ≡ b → find_task x.id xs ≡ None → find_task i ys ≡ None → find_task i (cond b xs (x ∷ ys)) ≡ None
 gone_by_test i true x xs ys e d rest = rw (eqb-true x.id i e) at d

@@ -14,6 +14,7 @@ abbrev pub sum_of : (Task → ℕ) → List Task → ℕ
 sum_of f [] = 0
 sum_of f (x ∷ xs) = f x + sum_of f xs
 
+-- the sum is the taken task's number and the sum of the rest, whether it is the first task or a later one
 taken_by_test : (f : Task → ℕ) (b : Bool) (x t : Task) (xs ys : List Task) (o : Option Task)
     → cond b (Some x) o ≡ Some t → (o ≡ Some t → sum_of f xs ≡ f t + sum_of f ys)
     → sum_of f (x ∷ xs) ≡ f t + sum_of f (cond b xs (x ∷ ys))
@@ -26,6 +27,7 @@ pub sum_of-without : (f : Task → ℕ) (i : ℕ) (xs : List Task) (t : Task)
 sum_of-without f i [] t h = cc
 sum_of-without f i (x ∷ xs) t h = taken_by_test f (eqb x.id i) x t xs (without i xs) (find_task i xs) h (sum_of-without f i xs t)
 
+-- taking out one id leaves what is found by another id, by cases: with a first task, for any list
 other_by_test : (i j : ℕ) (b c : Bool) (x : Task) (xs ys : List Task)
     → eqb x.id i ≡ b → eqb x.id j ≡ c → (i ≡ j → ⊥) → find_task j ys ≡ find_task j xs
     → find_task j (cond b xs (x ∷ ys)) ≡ cond c (Some x) (find_task j xs)
@@ -38,6 +40,7 @@ find_task-without_other i j [] ne = refl
 find_task-without_other i j (x ∷ xs) ne =
     other_by_test i j (eqb x.id i) (eqb x.id j) x xs (without i xs) refl refl ne (find_task-without_other i j xs ne)
 
+-- lists that are the same by ids stay so without the first task of one, by cases: at one id, at all ids
 rest_same_at : (x : Task) (xs ys : List Task) → HasDistinctIds (x ∷ xs) → HasDistinctIds ys → SameById (x ∷ xs) ys
     → (j : ℕ) (b : Bool) → eqb x.id j ≡ b
     → find_task j xs ≡ find_task j (without x.id ys)
@@ -53,11 +56,13 @@ rest_same : (x : Task) (xs ys : List Task) → HasDistinctIds (x ∷ xs) → Has
     → SameById xs (without x.id ys)
 rest_same x xs ys d dy h = λ j. rest_same_at x xs ys d dy h j (eqb x.id j) refl
 
+-- the first task of one list is found by its id in the other
 first_there : (x : Task) (xs ys : List Task) → SameById (x ∷ xs) ys → find_task x.id ys ≡ Some x
 first_there x xs ys h =
     let here : find_task x.id (x ∷ xs) ≡ Some x = rw (eq-eqb x.id x.id refl) refl in
     sym (h x.id) ∙ here
 
+-- lists with distinct ids that are the same by their ids have the same sum
 sum_of-same : (f : Task → ℕ) (xs ys : List Task) → HasDistinctIds xs → HasDistinctIds ys → SameById xs ys → sum_of f xs ≡ sum_of f ys
 sum_of-same f [] [] dx dy h = refl
 sum_of-same f [] (y ∷ ys) dx dy h = let there = first_there y ys [] (λ i. sym (h i)) in cc
@@ -66,6 +71,7 @@ sum_of-same f (x ∷ xs) ys dx dy h =
     let whole = sum_of-without f x.id ys x (first_there x xs ys h) in
     omega (arith, rest, whole)
 
+-- the total weight and the weighted sum are sums of a number of each task
 total_weight-sum_of : (xs : List Task) → total_weight xs ≡ sum_of (λ (t : Task). t.weight) xs
 total_weight-sum_of [] = refl
 total_weight-sum_of (x ∷ xs) = ap (λ n. x.weight + n) (total_weight-sum_of xs)
@@ -88,6 +94,7 @@ weighted_sum-same xs ys dx dy s =
 
 -- Tasks that pass a test
 
+-- an id that no task has, none has among those that pass a test, by cases: with a first task, for any list
 kept_none : (p : Task → Bool) (i : ℕ) (b : Bool) (x : Task) (xs : List Task)
     → find_task i xs ≡ None → eqb x.id i ≡ false → find_task i (cond b (x ∷ xs) xs) ≡ None
 kept_none p i true x xs h e = rw e h
@@ -99,6 +106,7 @@ filter_none p i (x ∷ xs) h =
     let s = find_task-none i x xs h in
     kept_none p i (p x) x (filter p xs) (filter_none p i xs s.1) s.0
 
+-- ids stay distinct whether a task of a new id is kept or not
 kept_distinct : (b : Bool) (x : Task) (xs : List Task) → find_task x.id xs ≡ None → HasDistinctIds xs → HasDistinctIds (cond b (x ∷ xs) xs)
 kept_distinct true x xs n d = (n, d)
 kept_distinct false x xs n d = d
@@ -108,6 +116,7 @@ pub HasDistinctIds-filter : (p : Task → Bool) (xs : List Task) → HasDistinct
 HasDistinctIds-filter p [] d = tt
 HasDistinctIds-filter p (x ∷ xs) d = kept_distinct (p x) x (filter p xs) (filter_none p x.id xs d.0) (HasDistinctIds-filter p xs d.1)
 
+-- a task kept of a list was there and passes the test, if that is so for the list behind the first task
 at_filter : (p : Task → Bool) (b : Bool) (x t : Task) (ys xs : List Task) (k : ℕ)
     → p x ≡ b → k < length (cond b (x ∷ ys) ys) → slice_index_or (cond b (x ∷ ys) ys) k t ≡ t
     → (Contains ys t → Contains xs t × (p t ≡ true))
@@ -121,6 +130,7 @@ pub Contains-filter : (p : Task → Bool) (xs : List Task) (t : Task) → Contai
 Contains-filter p [] t h = absurd (omega (arith, h.1))
 Contains-filter p (x ∷ xs) t h = at_filter p (p x) x t (filter p xs) xs h.0 refl h.1 h.2 (Contains-filter p xs t)
 
+-- what is kept of the rest is kept of the whole, whether the first task passes or not
 kept_later : (b : Bool) (x t : Task) (ys : List Task) → Contains ys t → Contains (cond b (x ∷ ys) ys) t
 kept_later true x t ys h = Contains-later x t ys h
 kept_later false x t ys h = h

@@ -1,4 +1,4 @@
--- Lists with distinct ids that hold the same tasks have the same first task and the same sums.
+-- Lists with distinct ids that hold the same tasks agree on each id, and have the same first task by any order.
 use Rattle.std.proofs.Common.{◌≡◌, ℕ, zero, suc, ◌<◌, Bool, true, false, cond, eqb, List, [], ◌∷◌, length, Option, Some, None, refl, ap, sym, ◌∙◌, ◌⊎◌, inl, inr, arith, eqb-true, eq-eqb}
 use Rattle.std.specs.Prelude.{Contains, slice_index_or, IfSome}
 use Rattle.std.proofs.lemmas.Bool.Decides.{nat_tests}
@@ -12,6 +12,7 @@ use Rattle.bq_disc.specs.Orders.{Contains-first, Contains-later}
 abbrev pub SameById : List Task → List Task → Type 0
 SameById xs ys = (id : ℕ) → find_task id xs ≡ find_task id ys
 
+-- a task that is found by an id has that id, by whether the first task has it
 found_by_test : (b : Bool) (i : ℕ) (x t : Task) (o : Option Task)
     → eqb x.id i ≡ b → cond b (Some x) o ≡ Some t → (o ≡ Some t → t.id ≡ i) → t.id ≡ i
 found_by_test true i x t o e h rest = let same : x ≡ t = cc in ap (λ (s : Task). s.id) (sym same) ∙ eqb-true x.id i e
@@ -22,6 +23,7 @@ pub find_task-id : (i : ℕ) (xs : List Task) (t : Task) → find_task i xs ≡ 
 find_task-id i [] t h = cc
 find_task-id i (x ∷ xs) t h = found_by_test (eqb x.id i) i x t (find_task i xs) refl h (find_task-id i xs t)
 
+-- a task found in the rest is found in the whole, because the first task has another id
 later_by_test : (b : Bool) (x t : Task) (xs : List Task) → eqb x.id t.id ≡ b → find_task x.id xs ≡ None
     → find_task t.id xs ≡ Some t
     → cond b (Some x) (find_task t.id xs) ≡ Some t
@@ -39,10 +41,12 @@ find_task-Contains (x ∷ xs) t (suc k) d l e =
     let rest = find_task-Contains xs t k d.1 (omega (arith, l)) e in
     later_by_test (eqb x.id t.id) x t xs refl d.0 rest
 
+-- there is no task, or there is one
 some_or_none : (o : Option Task) → (o ≡ None) ⊎ ((t : Task) × (o ≡ Some t))
 some_or_none None = inl refl
 some_or_none (Some t) = inr (t, refl)
 
+-- a task that is found is in the list, whether it is the first or a later one
 here_or_later : (b : Bool) (x t : Task) (xs : List Task) (i : ℕ)
     → cond b (Some x) (find_task i xs) ≡ Some t → (find_task i xs ≡ Some t → Contains xs t) → Contains (x ∷ xs) t
 here_or_later true x t xs i h rest = (0, omega arith, cc)
@@ -53,6 +57,7 @@ pub Contains-find_task : (i : ℕ) (xs : List Task) (t : Task) → find_task i x
 Contains-find_task i [] t h = cc
 Contains-find_task i (x ∷ xs) t h = here_or_later (eqb x.id i) x t xs i h (Contains-find_task i xs t)
 
+-- what one list has or lacks by an id, another with the same tasks has or lacks
 carried_over : (i : ℕ) (xs ys : List Task) (o : Option Task) → find_task i xs ≡ o → HasDistinctIds ys
     → ((t : Task) → Contains xs t → Contains ys t) → ((t : Task) → Contains ys t → Contains xs t) → HasDistinctIds xs
     → find_task i ys ≡ o
@@ -96,24 +101,29 @@ due_before-IsOrder = record {
   apart = λ a b h k. grind (arith, nat_tests);
 }
 
+-- by an order, no task comes before itself
 not_itself : (before : Task → Task → Bool) → IsOrder before → (a : Task) (b : Bool) → before a a ≡ b → before a a ≡ false
 not_itself before o a true e = o.one_way a a e
 not_itself before o a false e = e
 
+-- no task of the list comes before m
 abbrev NoneBefore : (Task → Task → Bool) → Task → List Task → Type 0
 NoneBefore before m [] = Unit {0}
 NoneBefore before m (x ∷ xs) = (before x m ≡ false) × NoneBefore before m xs
 
+-- if m does not come before n and no task of a list before m, none comes before n
 none_before_later : (before : Task → Task → Bool) → IsOrder before → (m n : Task) (xs : List Task) → before m n ≡ false
     → NoneBefore before m xs
     → NoneBefore before n xs
 none_before_later before o m n [] e h = tt
 none_before_later before o m n (x ∷ xs) e h = (o.passes_on x m n h.0 e, none_before_later before o m n xs e h.1)
 
+-- m is the first of the tasks by an order; None of no tasks
 abbrev IsFirst : (Task → Task → Bool) → List Task → Option Task → Type 0
 IsFirst before xs None = xs ≡ []
 IsFirst before xs (Some m) = Contains xs m × NoneBefore before m xs
 
+-- the former of a task and the first of a list is the first of all, by cases: the list has a first, it may have none
 first_of_two : (before : Task → Task → Bool) → IsOrder before → (x m : Task) (xs : List Task) (b : Bool) → before m x ≡ b
     → Contains xs m → NoneBefore before m xs
     → IsFirst before (x ∷ xs) (Some (cond b m x))
@@ -127,20 +137,24 @@ first_with : (before : Task → Task → Bool) → IsOrder before → (x : Task)
 first_with before o x xs None h = (Contains-first x xs, (not_itself before o x (before x x) refl, rw h tt))
 first_with before o x xs (Some m) h = first_of_two before o x m xs (before m x) refl h.0 h.1
 
+-- the first of a list by an order is in it, and none comes before it
 is_first : (before : Task → Task → Bool) → IsOrder before → (xs : List Task) → IsFirst before xs (first_by before xs)
 is_first before o [] = refl
 is_first before o (x ∷ xs) = first_with before o x xs (first_by before xs) (is_first before o xs)
 
+-- if no task of a list comes before m, a task that the list contains does not
 not_before_at : (before : Task → Task → Bool) (m t : Task) (xs : List Task) (k : ℕ)
     → NoneBefore before m xs → k < length xs → slice_index_or xs k t ≡ t → before t m ≡ false
 not_before_at before m t [] k h l e = absurd (omega (arith, l))
 not_before_at before m t (x ∷ xs) zero h l e = ap (λ s. before s m) (sym e) ∙ h.0
 not_before_at before m t (x ∷ xs) (suc k) h l e = not_before_at before m t xs k h.1 (omega (arith, l)) e
 
+-- an empty list contains no task
 nothing_in : (xs : List Task) (t : Task) → xs ≡ [] → Contains xs t → ⊥
 nothing_in [] t e c = omega (arith, c.1)
 nothing_in (x ∷ xs) t e c = cc
 
+-- the first tasks of lists with the same tasks are the same, by cases: whether each list has one
 same_firsts : (before : Task → Task → Bool) → IsOrder before → (xs ys : List Task) → HasDistinctIds xs → HasDistinctIds ys
     → SameSet xs ys → (m n : Option Task) → IsFirst before xs m → IsFirst before ys n
     → m ≡ n
@@ -164,6 +178,7 @@ pub first_by-same : (before : Task → Task → Bool) → IsOrder before → (xs
 first_by-same before o xs ys dx dy s =
     same_firsts before o xs ys dx dy s (first_by before xs) (first_by before ys) (is_first before o xs) (is_first before o ys)
 
+-- no task that a list contains comes before its first
 no_other_before : (before : Task → Task → Bool) (xs : List Task) (o : Option Task)
     → IsFirst before xs o → IfSome o (λ m. (t : Task) → Contains xs t → before t m ≡ false)
 no_other_before before xs None h = tt

@@ -1,4 +1,4 @@
--- The choice is the earliest of the eligible.
+-- The choice of EEVDF is the earliest of the eligible.
 use Rattle.std.proofs.Common.{◌≡◌, false, List, Option, Some, None}
 use Rattle.std.specs.Prelude.{Contains, IfSome, IsTrue}
 use Rattle.bq_disc.specs.Tasks.{Task}
@@ -9,6 +9,7 @@ use Rattle.bq_disc.proofs.SameSumLemmas.{Contains-filter, filter-Contains}
 use Rattle.bq_eevdf.specs.Eevdf.{eligible, earliest, is_eligible}
 use Rattle.bq_eevdf.specs.EarliestChoice.{ChoiceIsEarliest}
 
+-- t is one of the tasks and eligible, and no eligible one is due before it
 abbrev IsEarliest : List Task → Task → Type 0
 IsEarliest xs t =
     Contains xs t × IsTrue (is_eligible xs t) × ((u : Task) → Contains xs u → IsTrue (is_eligible xs u) → due_before u t ≡ false)

@@ -49,6 +49,7 @@ IsBalanced-from_level E r p w l = record {
 
 -- The mean never falls
 
+-- whether a task runs or none, a Tick does not lower the sum of weight times v
 moment_up_by : (d : Discipline) (p : Running) (now : ℕ) (o : Option Task)
     → p.current ≡ o → IsWellFormed p → weighted_v_at p ≤ weighted_v_at (ticked d p now)
 moment_up_by d p now None e w = omega (arith, weighted_sum-idle d p now e)
@@ -64,6 +65,7 @@ moment_up d p now w = moment_up_by d p now p.current refl w
 
 -- One that runs gets ahead by no more than its rise, less its own part in the mean
 
+-- a task ahead of the mean by at most E that rises by at most `most` gets ahead by at most E and `most` at the others' weight
 ahead_more : (W w s M N E x y g most : ℕ) → W ≡ w + s → y ≡ x + g → g ≤ most → W * x ≤ M + E → N + w * x ≡ M + w * y
     → W * y ≤ N + (E + s * most)
 ahead_more W w s M N E x y g most split up le start moves =
@@ -73,6 +75,7 @@ ahead_more W w s M N E x y g most split up le start moves =
     let e = mul-le-mul_left s le in
     omega arith
 
+-- after a Tick a task is ahead of the mean by at most E and one rise, less its own part in the mean
 ahead_by : (E r : ℕ) (p : Running) (now i : ℕ) (t u : Task) → IsWellFormed p → IsLevel E r p → rise p now ≤ r
     → task_at i p ≡ Some t → Change eevdf p now i t u
     → weight_present p * u.v ≤ weighted_v_at (ticked eevdf p now) + most_ahead E r (weight_present p) t.weight
@@ -101,9 +104,11 @@ ahead_by E r p now i t u w l le f (Runs c e z) =
     let less : weight_present p - t.weight ≡ rest = omega arith in
     rw less law
 
+-- an eligible task is ahead of the mean by no more than E, whatever E is
 eligible_ahead : (W M E : ℕ) (t : Task) → is_at_most_mean W M t ≡ true → W * t.v ≤ M + E
 eligible_ahead W M E t h = grind (arith, nat_tests)
 
+-- a Tick keeps the bounds of the task that runs and of the task of each id
 level_ticked : (E r : ℕ) (p : Running) (now : ℕ) → AreTasksSound p → IsWellFormed p → IsLevel E r p → rise p now ≤ r
     → IsLevel E r (ticked eevdf p now)
 level_ticked E r p now s w l le =

@@ -23,6 +23,7 @@ use Rattle.bq_fairness.proofs.SoundLemmas.{of_each, vdelta_of-le, IsWellFormed, 
 abbrev pub IsNearEach : List Task → Task → Type 0
 IsNearEach xs m = AllByRecursion (λ t. m.v ≤ t.v + 1000000) xs
 
+-- where nothing ran, the task that starts is at most 1,000,000 beyond each of the queue
 started_near : (q : List Task) (mark last : ℕ) → HasDistinctIds q
     → IfSome (decided cfs (idle_processor q mark last) None false).current (IsNearEach q)
 started_near [] mark last d = tt
@@ -31,6 +32,7 @@ started_near (x ∷ xs) mark last d =
     rw (least_is_found x xs d)
     (weaker_of_each (λ (t : Task). m.v ≤ t.v) (λ (t : Task). m.v ≤ t.v + 1000000) (λ t k. omega arith) (x ∷ xs) (none_below_least x xs))
 
+-- where a task gives way, the one that then runs is so of all that were present, by cases: to one that is so, by the rule
 exchanged_near : (q : List Task) (mark last next : ℕ) (u m : Task)
     → next ≡ m.id → find_task m.id q ≡ Some m → IsNearEach (u ∷ q) m
     → IfSome (exchanged (busy_processor q mark u last) u (find_task next q)).current (IsNearEach (u ∷ q))
@@ -48,6 +50,7 @@ switched_near (x ∷ xs) mark last u d e =
     exchanged_near (x ∷ xs) mark last (next_of cfs u (x ∷ xs)) u m (next_is_least u x xs (omega arith))
     (least_is_found x xs d.1) (omega arith, near)
 
+-- where a task ran, the one that runs after the rule decides is so; and where a task ran or none
 decided_near : (q : List Task) (mark last : ℕ) (u : Task) (b : Bool)
     → HasDistinctIds (u ∷ q) → own_preempt cfs q (Some u) ≡ b
     → IfSome (decided cfs (busy_processor q mark u last) (Some u) b).current (IsNearEach (u ∷ q))
@@ -98,6 +101,7 @@ one_beyond_by V r p now i j t u b w fair le f g (Runs c e z) =
     let bound : u.v ≤ max V (b.v + 1000000) + vdelta_of r t.weight = omega arith in
     rw rs.weight bound
 
+-- a Tick at which the clock rises by at most r keeps each task as near the others
 fair_ticked : (V r : ℕ) (p : Running) (now : ℕ) → IsWellFormed p → IsFair V r p → rise p now ≤ r → IsFair V r (ticked cfs p now)
 fair_ticked V r p now w fair le = record {
   runs = λ j m t e f. let near = runs_near p now j m t w.distinct e f in omega arith;

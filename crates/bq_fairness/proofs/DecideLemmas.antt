@@ -12,6 +12,7 @@ pub record KeepsPresent (p q : Running) : Type 0 where
   pub distinct : HasDistinctIds (present_at q)
   pub last : q.last ≡ p.last
 
+-- a decision keeps who is present, at a processor given by its parts
 decided_keeps : (d : Discipline) (q : List Task) (mark : ℕ) (o : Option Task) (last : ℕ) (b : Bool)
     → (let p : Running = record { queue = q; mark = mark; current = o; last = last } in
     HasDistinctIds (present_at p) → KeepsPresent p (decided d p o b))

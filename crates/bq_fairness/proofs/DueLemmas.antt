@@ -35,6 +35,7 @@ record Dues (t u : Task) : Type 0 where
   due : IsDue u
   up : t.deadline ≤ u.deadline
 
+-- a new deadline is no earlier than v and than the old one, and at most one slice from v, renewed or not
 renewed_by_test : (x v slice weight deadline : ℕ) (b : Bool) → nat_le deadline v ≡ b → x ≤ deadline
     → deadline ≤ x + vdelta_of slice weight → x ≤ v → v ≤ 2 ^ 62
     → (let new = cond b (advance_of v slice weight) deadline in (v ≤ new) × (new ≤ v + vdelta_of slice weight) × (deadline ≤ new))
@@ -62,12 +63,14 @@ charged_due t x ends h = (charged_dues t x ends h).due
 pub charged_later : (t : Task) (x : ℕ) → t.v ≤ 2 ^ 62 → IsDue t → t.deadline ≤ (charged eevdf t x).deadline
 charged_later t x ends h = (charged_dues t x ends h).up
 
+-- as a task stays or runs at a Tick, it stays so, and its deadline does not fall
 dues : (p : Running) (now i : ℕ) (t u : Task) → t.v ≤ 2 ^ 62 → IsDue t → Change eevdf p now i t u → Dues t u
 dues p now i t u ends h (Stays e z) = rw e (record { due = h; up = omega arith })
 dues p now i t u ends h (Runs c e z) = rw e (charged_dues t (rise p now) ends h)
 
 -- The task that runs
 
+-- a number that is at most the mean is at most one that is above it
 lighter_by : (W M x y : ℕ) (b : Bool) → nat_le y x ≡ b → W * x ≤ M → M < W * y → x ≤ y
 lighter_by W M x y true e h k =
     let le : y ≤ x = grind (arith, nat_tests) in
@@ -124,6 +127,7 @@ pub record IsTimely (V r : ℕ) (p : Running) : Type 0 where
   pub runs : (j : ℕ) (m t : Task) → p.current ≡ Some m → task_at j p ≡ Some t → m.v ≤ max V t.deadline
   pub each : (i j : ℕ) (u t : Task) → task_at i p ≡ Some u → task_at j p ≡ Some t → u.v ≤ max V t.deadline + vdelta_of r u.weight
 
+-- a task that stays or runs is beyond V or another's deadline by no more than one rise
 one_beyond_by : (V r : ℕ) (p : Running) (now i j : ℕ) (t u b : Task)
     → IsWellFormed p → IsTimely V r p → rise p now ≤ r → task_at i p ≡ Some t → task_at j p ≡ Some b
     → Change eevdf p now i t u
@@ -139,6 +143,7 @@ one_beyond_by V r p now i j t u b w timely le f g (Runs c e z) =
     let bound : u.v ≤ max V b.deadline + vdelta_of r t.weight = omega arith in
     rw rs.weight bound
 
+-- a Tick keeps each task due so, and if the clock rises by at most r, as near the deadlines
 due_ticked : (p : Running) (now : ℕ) → IsWellFormed p → EachIsDue p → EachIsDue (ticked eevdf p now)
 due_ticked p now w due i u f =
     let b = tick_came eevdf p now i u w.distinct f in

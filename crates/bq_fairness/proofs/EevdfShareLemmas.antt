@@ -22,6 +22,7 @@ eevdf_serves_its_share E r p nows j b s room bal le f =
     let moved = moves_the_sum eevdf p nows s room in
     rw (u.3, u.2, moved.0, moved.1, length-history eevdf p nows) at owed
 
+-- what one may be ahead of the mean and what another may be behind it bound how far the one comes beyond the other
 proportion_by : (w W x y M A B : ℕ) → W * x ≤ M + A → w * M ≤ w * (W * y) + B → w * (W * x) ≤ w * (W * y) + w * A + B
 proportion_by w W x y M A B ahead owed = omega (arith, mul-le-mul_left w ahead)
 
@@ -42,6 +43,7 @@ eevdf_serves_in_proportion E r p nows i j a b s room bal le f g =
     (weighted_v_at p + booked eevdf p nows) (most_ahead E r (weight_present p) a.weight) B ahead_here (omega (arith, owed)) in
     omega (arith, law)
 
+-- where a task was served nothing, the bound on what is booked is one on the time that passes
 waiting_by : (w M W v A B c s rest : ℕ) → s ≡ 0 → A ≤ B + c → w * (M + B) ≤ w * (W * (v + s)) + rest → w * (M + A) ≤ w * (W * v + c) + rest
 waiting_by w M W v A B c s rest none near owed =
     let nothing : v + s ≡ v = omega arith in

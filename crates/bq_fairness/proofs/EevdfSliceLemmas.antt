@@ -1,4 +1,4 @@
--- EEVDF: service and waiting, by slices.
+-- EEVDF: what a task is owed and served, and how long it waits, by its slice.
 use Rattle.std.proofs.Common.{ℕ, ◌+◌, ◌*◌, ◌≤◌, max, length, arith}
 use Rattle.std.proofs.lemmas.List.Elements.{All-weaker, recursion_from_All}
 use Rattle.std.proofs.Math.Nat.{mul-le-mul_left}
@@ -16,6 +16,7 @@ use Rattle.bq_fairness.proofs.CfsShareLemmas.{weighted_sum_within, share_by, lea
 use Rattle.bq_fairness.proofs.WorkLemmas.{moves_the_sum, books_the_time}
 use Rattle.bq_fairness.proofs.DueLemmas.{timely_history, timely_at_start}
 
+-- where N is at most `most`, the bound on the weighted sum by N is one by `most`
 owed_by : (M W N most r n : ℕ) → M ≤ W * N + 1024 * r * n → N ≤ most → M ≤ W * most + 1024 * r * n
 owed_by M W N most r n h le = omega (arith, mul-le-mul_left W le)
 

@@ -19,6 +19,7 @@ use Rattle.bq_fairness.proofs.ListLemmas.{of_some}
 abbrev pub IsChosen : List Task → Task → Type 0
 IsChosen xs m = (find_task m.id xs ≡ Some m) × (is_eligible xs m ≡ true)
 
+-- with distinct ids, an eligible task of a list is the one of its id, and eligible
 chosen_by : (xs : List Task) (o : Option Task) → IfSome o (Contains (eligible xs)) → HasDistinctIds xs → IfSome o (IsChosen xs)
 chosen_by xs None h d = tt
 chosen_by xs (Some m) h d =
@@ -35,6 +36,7 @@ IsEarliestOf xs t = earliest xs ≡ Some t
 
 -- Nothing runs, and the choice starts
 
+-- where nothing ran, the earliest of the queue runs
 started_by : (q : List Task) (mark last : ℕ) (o : Option Task)
     → earliest q ≡ o → IfSome o (IsChosen q)
     → IfSome (run_id (idle_processor q mark last) (id_of o)).current (IsEarliestOf q)
@@ -43,13 +45,16 @@ started_by q mark last (Some m) f h = rw h.0 f
 
 -- The current task keeps running, or gives way
 
+-- a task other than the current one, by the test of ids, is the next
 next_by_test : (m u : Task) (b : Bool) (k : ℕ) → b ≡ false → cond b k m.id ≡ m.id
 next_by_test m u false k e = refl
 next_by_test m u true k e = cc
 
+-- the id of the next task, given the choice among all that are present
 abbrev next_from : List Task → Task → Option Task → ℕ
 next_from q u o = let chosen = unwrap_or (id_of o) u.id in if chosen == u.id then unwrap_or (id_of (earliest q)) u.id else chosen
 
+-- if the earliest of all is not the current task, it is the next one
 next_is_chosen : (q : List Task) (u m : Task) → earliest (u ∷ q) ≡ Some m → eqb m.id u.id ≡ false → next_of eevdf u q ≡ m.id
 next_is_chosen q u m f e =
     ap (λ o. next_from q u o) f ∙ next_by_test m u (eqb m.id u.id) (unwrap_or (id_of (earliest q)) u.id) e
@@ -61,9 +66,11 @@ later_by_test : (q : List Task) (u m : Task) (b : Bool) → eqb u.id m.id ≡ b 
 later_by_test q u m true g e h = let same = eq-eqb m.id u.id (sym (eqb-true u.id m.id g)) in cc
 later_by_test q u m false g e h = h
 
+-- the task that runs, if one does, is the earliest of these
 abbrev RunsEarliestOf : List Task → Running → Type 0
 RunsEarliestOf xs p = IfSome p.current (IsEarliestOf xs)
 
+-- where the earliest and the current task change places, the earliest runs
 exchanged_earliest : (q : List Task) (mark last next : ℕ) (u m : Task)
     → next ≡ m.id → find_task m.id q ≡ Some m → IsEarliestOf (u ∷ q) m
     → RunsEarliestOf (u ∷ q) (exchanged (busy_processor q mark u last) u (find_task next q))
@@ -80,6 +87,7 @@ decided_by_test q mark last u m true e f h =
 decided_by_test q mark last u m false e f h =
     exchanged_earliest q mark last (next_of eevdf u q) u m (next_is_chosen q u m f e) (later_by_test q u m (eqb u.id m.id) refl e h.0) f
 
+-- after a decision the earliest of all runs, by cases: a task ran, any processor given by its parts
 decided_by : (q : List Task) (mark last : ℕ) (u : Task) (o : Option Task)
     → earliest (u ∷ q) ≡ o → IfSome o (IsChosen (u ∷ q)) → IsSome o
     → RunsEarliestOf (u ∷ q) (decided eevdf (busy_processor q mark u last) (Some u) (is_other o u))

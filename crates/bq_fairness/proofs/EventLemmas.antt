@@ -1,4 +1,4 @@
--- Each event of a processor is some steps.
+-- Each event of a processor does what some steps do.
 use Rattle.std.proofs.Common.{◌≡◌, ℕ, Bool, true, false, cond, eqb, List, [], ◌∷◌, Option, None, Some, refl, ap, sym, ◌∙◌, eqb-true, eq-eqb}
 use Rattle.bq_disc.specs.Tasks.{Task, find_task, without, inserted, present}
 use Rattle.bq_disc.specs.Queues.{HasDistinctIds}
@@ -22,6 +22,7 @@ stops d q mark (Some u) last t h e =
     let full : Option Task → List Task → Running = λ o q. record { queue = q; mark = mark; current = o; last = last } in
     sym (ap (λ o. full o (without t.id q)) gone ∙ ap (λ q. full None q) (without-absent t.id q absent))
 
+-- to let woken tasks enter and then decide is to make their entries, one after another
 drained : (d : Discipline) (q : List Task) (mark : ℕ) (o : Option Task) (last : ℕ) (tasks : List Task)
     → (let e : Running = record { queue = entered d mark q tasks; mark = mark; current = o; last = last } in
     decided d e e.current (own_preempt d e.queue e.current)
@@ -29,6 +30,7 @@ drained : (d : Discipline) (q : List Task) (mark : ℕ) (o : Option Task) (last 
 drained d q mark o last [] = refl
 drained d q mark o last (t ∷ tasks) = drained d (inserted (woken d mark t) q) mark o last tasks
 
+-- where nothing runs, to start the queue's choice is to decide
 starts : (d : Discipline) (q : List Task) (mark : ℕ) (o : Option Task) (last : ℕ)
     → (let p : Running = record { queue = q; mark = mark; current = o; last = last } in o ≡ None → choice_started d p ≡ stepped d p Decide)
 starts d q mark None last e = refl

@@ -41,6 +41,7 @@ pub record IsReach (d : Discipline) (reach : Task → ℕ) (P : Task → Type 0)
 
 -- The premise is kept
 
+-- the premise is true after a step of each that entered or was there, and so of each that is present
 holds_came : (d : Discipline) (reach : Task → ℕ) (P : Task → Type 0)
     → IsReach d reach P → (p : Running) (s : ProcessorStep) (i : ℕ) (u : Task) → IsWellFormed p
     → Each P p → OfEntered P s → Came d p s i u
@@ -69,6 +70,7 @@ AreClose V r n i j reach p = (u : Task) × (t : Task) × IsClose V r n i j reach
 
 -- Time passes
 
+-- the task that runs after time is charged is the one that ran before, by its id
 current_charged : (d : Discipline) (q : List Task) (mark : ℕ) (o : Option Task) (last now : ℕ) (m : Task)
     → (let p : Running = record { queue = q; mark = mark; current = o; last = last } in
     (charge d p now).current ≡ Some m → (c : Task) × (o ≡ Some c) × (c.id ≡ m.id))
@@ -76,6 +78,7 @@ current_charged d q mark None last now m e = cc
 current_charged d q mark (Some c) last now m e =
     let same : charged d c (reading last now - last) ≡ m = cc in (c, refl, ap (λ (x : Task). x.id) same)
 
+-- as time passes, what a task reaches does not fall
 reach_up : (d : Discipline) (reach : Task → ℕ) (P : Task → Type 0)
     → IsReach d reach P → (p : Running) (now j : ℕ) (t b : Task) → t.v ≤ 2 ^ 62 → P t → Change d p now j t b
     → reach t ≤ reach b
@@ -105,6 +108,7 @@ passes d V r n reach p now i j u t a b w c le up (Runs f e z) =
     let ever : a.v ≤ max V (reach b) + vdelta_of r u.weight = omega arith in
     rw rs.weight (ever, λ m g h. bound)
 
+-- two such tasks stay so as time passes, which is added to the time since the last decision
 close_pass : (d : Discipline) (reach : Task → ℕ) (P : Task → Type 0)
     → IsReach d reach P → (V r n : ℕ) (p : Running) (now i j : ℕ) (u t : Task) → IsWellFormed p → Each P p
     → n + rise p now ≤ r → IsClose V r n i j reach p u t
@@ -126,9 +130,11 @@ close_pass d reach P law V r n p now i j u t w h le c =
 
 -- The rule decides
 
+-- what is there is one task
 same_task : (o : Option Task) (a b : Task) → o ≡ Some a → o ≡ Some b → a ≡ b
 same_task o a b e f = cc
 
+-- two such tasks stay so as the rule decides, after which no time has passed
 close_decide : (d : Discipline) (reach : Task → ℕ) (P : Task → Type 0)
     → IsReach d reach P → (V r n : ℕ) (p : Running) (i j : ℕ) (u t : Task) → IsWellFormed p
     → Each P p → IsClose V r n i j reach p u t
@@ -154,6 +160,7 @@ close_decide d reach P law V r n p i j u t w h c =
 
 -- A task enters, or leaves
 
+-- two such tasks stay so as another task enters
 close_enter : (d : Discipline) (V r n : ℕ) (reach : Task → ℕ) (p : Running) (x : Task) (i j : ℕ) (u t : Task)
     → IsWellFormed p → EntersNew p (Enter x) → IsClose V r n i j reach p u t
     → AreClose V r n i j reach (stepped d p (Enter x))
@@ -162,6 +169,7 @@ close_enter d V r n reach p x i j u t w new c =
     let b = step_goes d p (Enter x) j t w.distinct new refl c.other in
     (u, t, record { one = a.1 ∙ ap (λ y. Some y) a.2; other = b.1 ∙ ap (λ y. Some y) b.2; runs = c.runs; ever = c.ever })
 
+-- the task that runs after another has left ran before
 current_kept_by : (c m : Task) (b : Bool) → cond b None (Some c) ≡ Some m → Some c ≡ Some m
 current_kept_by c m true e = cc
 current_kept_by c m false e = e
@@ -170,6 +178,7 @@ current_kept : (k : ℕ) (o : Option Task) (m : Task) → kept_current k o ≡ S
 current_kept k None m e = e
 current_kept k (Some c) m e = current_kept_by c m (eqb c.id k) e
 
+-- two such tasks stay so as another task leaves
 close_leave : (d : Discipline) (V r n : ℕ) (reach : Task → ℕ) (p : Running) (k i j : ℕ) (u t : Task)
     → IsWellFormed p → is_leave_of i (Leave k) ≡ false → is_leave_of j (Leave k) ≡ false → IsClose V r n i j reach p u t
     → AreClose V r n i j reach (stepped d p (Leave k))
@@ -188,6 +197,7 @@ close_leave d V r n reach p k i j u t w li lj c =
 
 -- Any step, and any number of them
 
+-- two such tasks stay so by any step that leaves both there
 close_stepped : (d : Discipline) (reach : Task → ℕ) (P : Task → Type 0)
     → IsReach d reach P → (V r n : ℕ) (p : Running) (s : ProcessorStep) (i j : ℕ) (u t : Task) → IsWellFormed p → Each P p
     → EntersNew p s → since n p s ≤ r → is_leave_of i s ≡ false → is_leave_of j s ≡ false → IsClose V r n i j reach p u t
@@ -205,6 +215,7 @@ EverClose V r i j reach P p =
     (u : Task) × (t : Task) × (task_at i p ≡ Some u) × (task_at j p ≡ Some t)
     × (u.v ≤ max V (reach t) + vdelta_of r u.weight) × P t
 
+-- after any number of steps, u is beyond V or what t reaches by no more than one rise
 close_after : (d : Discipline) (reach : Task → ℕ) (P : Task → Type 0)
     → IsReach d reach P → (V r n : ℕ) (p : Running) (ss : List ProcessorStep) (i j : ℕ) (u t : Task) → IsWellFormed p
     → Each P p → EachEntersNew d p ss → OfEachEntered P ss → DecidesWithin r d n p ss → StaysThroughout i ss
@@ -241,12 +252,14 @@ record Moves (d : Discipline) (p : Running) (s : ProcessorStep) (i : ℕ) (t u :
   slice : u.slice ≡ t.slice
   room : HasRoomAt (stepped d p s).last u
 
+-- a step that leaves a task as it is, and charges it nothing, takes it on so
 stands : (d : Discipline) (p : Running) (s : ProcessorStep) (i : ℕ) (t u : Task)
     → u ≡ t → step_charge i p s ≡ 0 → (stepped d p s).last ≡ p.last → HasRoomAt p.last t → Moves d p s i t u
 stands d p s i t u e z last room =
     let v : u.v ≡ t.v = ap (λ (x : Task). x.v) e in
     record { v = omega arith; weight = ap (λ (x : Task). x.weight) e; slice = ap (λ (x : Task). x.slice) e; room = rw (last, v) room }
 
+-- each step takes on so a task that stays and has room
 moves : (d : Discipline) (p : Running) (s : ProcessorStep) (i : ℕ) (t u : Task)
     → IsWellFormed p → task_at i p ≡ Some t → HasRoomAt p.last t → ChangesBy d p s i t u → Moves d p s i t u
 moves d p (Pass now) i t u w f room g =

@@ -23,6 +23,7 @@ together E r W M (x ∷ xs) h =
     let here = mul-le-mul_left x.weight h.0 in
     omega (arith, here, together E r W M xs h.1)
 
+-- where the others are ahead of the mean by at most B together, one is behind it by at most B
 owed_by : (W M w v T S B : ℕ) → W ≡ w + T → M ≡ w * v + S → W * S ≤ T * M + B → w * M ≤ w * (W * v) + B
 owed_by W M w v T S B split sum h =
     let a = ap (λ n. W * n) sum in
@@ -41,6 +42,7 @@ none_is_owed_more E r p j b s bal f =
     owed_by W M b.weight b.v (total_weight others) (weighted_sum others) (ahead_together E r W others)
     (weights_split j xs b f) (moments_split j xs b f) (together E r W M others each)
 
+-- what one task is ahead by, measured in time: at most E at its own weight, and one rise at the weight of all, less its own
 one_long : (E r W w s : ℕ) → W ≡ w + s → w * (E + s * vdelta_of r w) + 1024 * r * w ≤ w * E + 1024 * r * W
 one_long E r W w s split =
     let a = mul-le-mul_left s (vdelta_of-weighted r w) in
@@ -61,6 +63,7 @@ long E r W (x ∷ xs) h =
     let n = ap (λ k. 1024 * r * k) (length_times x xs W) in
     omega (arith, one, n, long E r W xs h.1)
 
+-- the bound by what the others are ahead by, measured in time, is one by how many are present
 long_by : (E r W w v M T n B : ℕ) → W ≡ w + T → w * M ≤ w * (W * v) + B
     → B + 1024 * r * T ≤ T * E + 1024 * r * (n * W) → (n ≡ 0 → B ≡ 0)
     → w * M ≤ w * (W * v) + (T * E + 1024 * r * ((n + 1 - 2) * W + w))
@@ -70,6 +73,7 @@ long_by E r W w v M T (suc n) B split owed h none =
     let less : suc n + 1 - 2 ≡ n = omega arith in
     rw less (omega arith)
 
+-- where no others are present, what they are ahead by together is 0
 none_ahead : (E r W : ℕ) (xs : List Task) → length xs ≡ 0 → ahead_together E r W xs ≡ 0
 none_ahead E r W [] h = refl
 none_ahead E r W (x ∷ xs) h = cc

@@ -34,6 +34,7 @@ use Rattle.bq_fairness.specs.Passing.{DisciplinePasses, CfsPasses}
 
 -- The discipline's own answer
 
+-- a choice that is reported as the discipline's is its own, whether the policy's answer was permitted or not
 own_by_test : (b : Bool) (permitted : ℕ → Bool) (r0 own : ℕ) → permitted r0 ≡ b
     → (chosen permitted (Some r0) own).by ≡ who.Discipline
     → (chosen permitted (Some r0) own).choice ≡ own
@@ -49,6 +50,7 @@ own_choice s None context attached now processor permitted own settled h e = ap 
 own_choice s (Some policy) context attached now processor permitted own settled h e =
     h.choice ∙ own_by_test (permitted h.r0) permitted h.r0 own refl (sym h.by ∙ e)
 
+-- an answer, read back from its number, is the same
 as_bool : (b : Bool) → (as_number b == 1) ≡ b
 as_bool true = refl
 as_bool false = refl
@@ -65,6 +67,7 @@ own_decision s processor p (Some u) settled h e =
 
 -- Of the shares
 
+-- what the share of a Tick whose answer is the discipline's own, and that of a Block, leave at the processor
 tick_share_leaves : (d : Discipline) (p q : Processor) (processor now : ℕ) (calls : List CounterCall) (run : Option ℕ) (steps : ℕ) →
     Ticks (by_programs d) processor now p calls (Ticked run who.Discipline steps) q → q.running ≡ ticked d p.running now
 tick_share_leaves d p q processor now calls run steps h =
@@ -78,12 +81,14 @@ block_share_leaves d p q processor now lobby lobby' reply h = ap (λ (x : Proces
 
 -- Of the world
 
+-- where the number of a processor is not refused, the world has it
 in_range : (count processor : ℕ) (b : Bool) (o : Option Refusal)
     → nat_le count processor ≡ b → either_refusal (first_refusal ((b, no.NoProcessor) ∷ [])) o ≡ None
     → processor < count
 in_range count processor true o e h = cc
 in_range count processor false o e h = grind (arith, nat_tests)
 
+-- a processor of the world that is written stands there
 there : (w : World) (processor : ℕ) (q : Processor) → processor < count_in w → processor_at (with_processor w processor q) processor ≡ q
 there w processor q l = get_or-set_same w.processors processor q new_processor l
 
@@ -96,6 +101,7 @@ written w w' v processor q o h e f =
     ap (λ (u : World). processor_at u processor) e ∙ f
     ∙ there w processor q (in_range (count_in w) processor (nat_le (count_in w) processor) o refl h)
 
+-- what a Tick of the world whose answer is the discipline's own, and a Block, leave at their processor
 tick_leaves : (d : Discipline) (w w' : World) (processor now : ℕ) (calls : List CounterCall) (run : Option ℕ) (steps : ℕ)
     → WorldStep (by_programs d) w (Tick processor now) calls (Ok (Ticked run who.Discipline steps)) w'
     → (processor_at w' processor).running ≡ ticked d (processor_at w processor).running now
@@ -118,21 +124,25 @@ discipline_passes = record { tick_share = tick_share_leaves; block_share = block
 
 -- Under CFS
 
+-- where a task runs, the Block of the laws of CFS is that of a processor
 departs : (p : Running) (now : ℕ) (o : Option Task) (t : Task) (f : Task → Task)
     → option_map f o ≡ Some t → departed p now o ≡ after_block cfs p now
 departs p now None t f e = cc
 departs p now (Some u) t f e = refl
 
+-- where nothing runs, the Block of the laws of CFS changes nothing
 stays : (p : Running) (now : ℕ) (o : Option Task) (r : Refusal) → first_refusal ((is_none o, no.Idle) ∷ []) ≡ Some r → departed p now o ≡ p
 stays p now None r e = refl
 stays p now (Some u) r e = cc
 
+-- a Block at a processor of the world is refused only because nothing runs
 only_idle : (count processor : ℕ) (b : Bool) (o : Option Refusal) (r : Refusal)
     → processor < count → nat_le count processor ≡ b → either_refusal (first_refusal ((b, no.NoProcessor) ∷ [])) o ≡ Some r
     → o ≡ Some r
 only_idle count processor true o r l e h = absurd (let k : count ≤ processor = grind (arith, nat_tests) in omega arith)
 only_idle count processor false o r l e h = h
 
+-- under CFS a Block of the world, done or refused, leaves what the Block of its laws does
 blocked : (w w' : World) (processor now : ℕ) (calls : List CounterCall) (answer : Result Reply Refusal)
     → processor < count_in w → WorldStep (by_programs cfs) w (Block processor now) calls answer w'
     → (processor_at w' processor).running ≡ processor_passed (processor_at w processor).running (BlockAt now)

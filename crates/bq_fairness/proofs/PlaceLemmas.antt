@@ -12,6 +12,7 @@ use Rattle.bq_cfs.proofs.SpreadStayLemmas.{idle_processor, busy_processor}
 pub find_task-own : (t : Task) (xs : List Task) → find_task t.id (t ∷ xs) ≡ Some t
 find_task-own t xs = rw (eq-eqb t.id t.id refl) refl
 
+-- a task that enters is found by its id, and by each id what the first would be, whether it is sought or not
 find_task-inserted_same : (t : Task) (xs : List Task) → find_task t.id xs ≡ None → find_task t.id (inserted t xs) ≡ Some t
 find_task-inserted_same t [] n = find_task-own t []
 find_task-inserted_same t (x ∷ xs) n =
@@ -30,6 +31,7 @@ placed_by_test i t xs false e n = find_task-inserted_other i t xs e
 pub find_task-inserted : (i : ℕ) (t : Task) (xs : List Task) → find_task t.id xs ≡ None → find_task i (inserted t xs) ≡ find_task i (t ∷ xs)
 find_task-inserted i t xs n = placed_by_test i t xs (eqb t.id i) refl n
 
+-- what another id stands for stays, whether the first task is the one taken out, the one sought or neither
 other_by_test : (i j : ℕ) (b c : Bool) (x : Task) (xs ys : List Task)
     → eqb x.id i ≡ b → eqb x.id j ≡ c → eqb i j ≡ false → find_task j ys ≡ find_task j xs
     → find_task j (cond b xs (x ∷ ys)) ≡ cond c (Some x) (find_task j xs)
@@ -43,6 +45,7 @@ find_task-without_other i j [] ne = refl
 find_task-without_other i j (x ∷ xs) ne =
     other_by_test i j (eqb x.id i) (eqb x.id j) x xs (without i xs) refl refl ne (find_task-without_other i j xs ne)
 
+-- a task that is put first is found as before, whether it is sought or not
 first_by_test : (i j : ℕ) (q : List Task) (m : Task) (b : Bool)
     → eqb i j ≡ b → find_task i q ≡ Some m → cond b (Some m) (find_task j (without i q)) ≡ find_task j q
 first_by_test i j q m true e f = sym (ap (λ k. find_task k q) (sym (eqb-true i j e)) ∙ f)
@@ -55,6 +58,7 @@ find_task-first i j q m f =
 
 -- Nothing runs, and a task of the queue starts
 
+-- where a task of the queue starts, if there is one, each id stands for the same task, and ids stay distinct
 started_by : (i j : ℕ) (q : List Task) (o : Option Task) → find_task i q ≡ o → find_task j (present o (without i q)) ≡ find_task j q
 started_by i j q None e = ap (find_task j) (without-absent i q e)
 started_by i j q (Some m) e = find_task-first i j q m e
@@ -90,6 +94,7 @@ either_order true true m u o apart = absurd (apart refl refl)
 either_order true false m u o apart = refl
 either_order false c m u o apart = refl
 
+-- where a task and one of the queue change places, each id stands for the same task
 changed_places : (j : ℕ) (u m : Task) (q : List Task) → find_task m.id q ≡ Some m → find_task u.id q ≡ None
     → find_task j (m ∷ inserted u (without m.id q)) ≡ find_task j (u ∷ q)
 changed_places j u m q f n =
@@ -101,6 +106,7 @@ changed_places j u m q f n =
     ∙ either_order (eqb m.id j) (eqb u.id j) m u (find_task j rest) apart
     ∙ ap (λ o. cond (eqb u.id j) (Some u) o) (find_task-first m.id j q m f)
 
+-- a task that is found by some id is found by its own
 own_id : (i : ℕ) (q : List Task) (m : Task) → find_task i q ≡ Some m → find_task m.id q ≡ Some m
 own_id i q m e = ap (λ k. find_task k q) (find_task-id i q m e) ∙ e
 

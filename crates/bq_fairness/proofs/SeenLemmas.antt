@@ -36,6 +36,7 @@ use Rattle.bq_fairness.proofs.PassingLemmas.{own_decision}
 
 -- What is read of a world after a processor was written
 
+-- at the processor that was written stands what was written, and at each other what stood there
 at_itself : (w : World) (processor : ℕ) (q : Processor) → processor < count_in w
     → running_at (with_processor w processor q) processor ≡ q.running
 at_itself w processor q l = ap (λ (x : Processor). x.running) (get_or-set_same w.processors processor q new_processor l)
@@ -70,6 +71,7 @@ distinct_at w processor o = HasDistinctIds-from_counts (present_at (running_at w
 
 -- The events that one processor sees
 
+-- what an event leaves at its own processor is what its steps leave, by events: Tick, Drain, Block
 tick_seen : (d : Discipline) (at processor now : ℕ) (p q : Processor) (calls : List CounterCall) (r : Reply)
     → Ticks (by_programs d) processor now p calls r q → DecidesAlone at (Tick processor now) (Ok r) → at ≡ processor
     → q.running ≡ after_steps d p.running (Pass now ∷ Decide ∷ [])
@@ -101,6 +103,7 @@ block_seen d w processor now q lobby r o h =
 
 -- A pull, as its two processors see it
 
+-- to let a pulled task enter, and start the choice if nothing runs, is to make the steps for it
 entered_then : (d : Discipline) (p : Running) (o cur : Option Task)
     → p.current ≡ cur → started_if_idle d (with_pulled d p o) cur ≡ after_steps d p (enter_if_pulled d p o ++ decide_if_idle cur)
 entered_then d p None None e = events_are_steps.idle d p e
@@ -108,10 +111,12 @@ entered_then d p (Some t) None e = events_are_steps.idle d (with_pulled d p (Som
 entered_then d p None (Some u) e = refl
 entered_then d p (Some t) (Some u) e = refl
 
+-- where a test finds that a task may use a processor, there is one
 there_is : (processor : ℕ) (o : Option Task) → option_map_or (can_use processor) o false ≡ true → (t : Task) × (o ≡ Some t)
 there_is processor None h = cc
 there_is processor (Some t) h = (t, refl)
 
+-- to compute the mark again and take a task away is to make the steps of the other processor of a pull
 goes_away : (d : Discipline) (processor n : ℕ) (p : Running) (task : Option ℕ)
     → HasDistinctIds (present_at p) → may_pull processor p.queue n ≡ true → task_numbered n ≡ task
     → without_task (marked d p) task ≡ after_steps d p (leaving task)
@@ -138,6 +143,7 @@ pull_cases d w processor from at q r ss rs false true e f n l hq hr =
 pull_cases d w processor from at q r ss rs false false e f n l hq hr =
     at_another (with_processor w processor q) from at r (eqb-false at from f) ∙ at_another w processor at q (eqb-false at processor e)
 
+-- what a pull leaves at a processor, at the puller, the source or another, is what its steps there leave
 pull_seen : (d : Discipline) (at : ℕ) (w : World) (processor from now : ℕ) (q other : Processor)
     (calls : List CounterCall) (r : Reply)
     → IsOrderly w → at < count_in w → processor ≢ from
@@ -204,6 +210,7 @@ event_is_steps d at w w' (Pull processor from now) calls (Ok r) o l h alone =
 
 -- Histories
 
+-- some steps and others after them are all of them, one after another
 after-append : (d : Discipline) (p : Running) (ss rs : List ProcessorStep) → after_steps d p (ss ++ rs) ≡ after_steps d (after_steps d p ss) rs
 after-append d p [] rs = refl
 after-append d p (s ∷ ss) rs = after-append d (stepped d p s) ss rs

@@ -15,6 +15,7 @@ use Rattle.bq_fairness.proofs.SoundLemmas.{IsWellFormed, change_rises}
 
 -- A task enters
 
+-- as a task of a new id enters, each id stands for it or for what it stood for, and ids stay distinct
 entered_stays : (o : Option Task) (q : List Task) (t : Task) (i : ℕ)
     → find_task t.id (present o q) ≡ None → find_task i (present o (inserted t q)) ≡ find_task i (t ∷ present o q)
 entered_stays None q t i n = find_task-inserted i t q n
@@ -32,6 +33,7 @@ entered_distinct (Some c) q t n d =
     let s = find_task-none t.id c q n in
     (find_task-inserted_other c.id t q (eqb_comm c.id t.id s.0) ∙ d.0, HasDistinctIds-inserted t q s.1 d.1)
 
+-- a task that was there is found beside the one that enters; what is found is one that was there or the one that enters
 stays_by : (i : ℕ) (t u : Task) (xs : List Task) (b : Bool) → eqb t.id i ≡ b → find_task t.id xs ≡ None → find_task i xs ≡ Some u
     → cond b (Some t) (find_task i xs) ≡ Some u
 stays_by i t u xs true e n f = let k = ap (λ k. find_task k xs) (eqb-true t.id i e) in cc
@@ -43,6 +45,7 @@ comes_by i t u o false f = inl f
 
 -- A task leaves
 
+-- ids stay distinct as a task leaves, from running or from the queue
 left_distinct_by : (k : ℕ) (q : List Task) (c : Task) (b : Bool)
     → HasDistinctIds (c ∷ q) → HasDistinctIds (present (cond b None (Some c)) (without k q))
 left_distinct_by k q c true d = HasDistinctIds-without k q d.1
@@ -53,12 +56,14 @@ left_distinct : (k : ℕ) (q : List Task) (o : Option Task) → HasDistinctIds (
 left_distinct k q None d = HasDistinctIds-without k q d
 left_distinct k q (Some c) d = left_distinct_by k q c (eqb c.id k) d
 
+-- where the current task is the one that leaves, another id does not stand for it
 gone : (a b i : ℕ) (x : Option Task) (c : Task) → eqb a b ≡ true → eqb b i ≡ false → cond (eqb a i) (Some c) x ≡ x
 gone a b i x c e f =
     let same = eqb-true a b e in
     let other : eqb a i ≡ false = ap (λ k. eqb k i) same ∙ f in
     rw other refl
 
+-- as a task leaves, each other id stands for the task that it stood for
 left_stays_by : (k i : ℕ) (q : List Task) (c : Task) (b : Bool)
     → eqb c.id k ≡ b → eqb k i ≡ false
     → find_task i (present (cond b None (Some c)) (without k q)) ≡ cond (eqb c.id i) (Some c) (find_task i q)
@@ -70,6 +75,7 @@ left_stays : (k i : ℕ) (q : List Task) (o : Option Task) → eqb k i ≡ false
 left_stays k i q None n = find_task-without_other k i q n
 left_stays k i q (Some c) n = left_stays_by k i q c (eqb c.id k) refl n
 
+-- once a task has left, none has its id
 left_none_by : (k : ℕ) (q : List Task) (c : Task) (b : Bool) → eqb c.id k ≡ b → HasDistinctIds (c ∷ q)
     → find_task k (present (cond b None (Some c)) (without k q)) ≡ None
 left_none_by k q c true e d = find_task-without_same k q d.1
@@ -80,6 +86,7 @@ left_none : (k : ℕ) (q : List Task) (o : Option Task) → HasDistinctIds (pres
 left_none k q None d = find_task-without_same k q d
 left_none k q (Some c) d = left_none_by k q c (eqb c.id k) refl d
 
+-- what is present once a task has left was there before
 left_came_by : (k i : ℕ) (q : List Task) (o : Option Task) (u : Task) (b : Bool)
     → eqb k i ≡ b → HasDistinctIds (present o q) → find_task i (present (kept_current k o) (without k q)) ≡ Some u
     → find_task i (present o q) ≡ Some u
@@ -105,6 +112,7 @@ pub data Came (d : Discipline) (p : Running) (s : ProcessorStep) (i : ℕ) (u : 
   Charged : (now : ℕ) (t : Task) → s ≡ Pass now → task_at i p ≡ Some t → Change d p now i t u → Came d p s i u
   Entered : s ≡ Enter u → Came d p s i u
 
+-- what is present once a task has entered was there before, or is the one that entered
 entered_came : (d : Discipline) (p : Running) (t : Task) (i : ℕ) (u : Task) → (task_at i p ≡ Some u) ⊎ (t ≡ u) → Came d p (Enter t) i u
 entered_came d p t i u (inl f) = Was f
 entered_came d p t i u (inr e) = Entered (ap (λ x. Enter x) e)
@@ -142,6 +150,7 @@ step_goes d p (Enter x) i t h n l f =
 step_goes d p (Leave k) i t h n l f = (t, left_stays k i p.queue p.current l ∙ f, refl)
 step_goes d p Mark i t h n l f = (t, f, refl)
 
+-- each task that is present after a step has a weight in its range and a v of at most 2^62
 step_ends : (d : Discipline) (p : Running) (s : ProcessorStep) (i : ℕ) (u : Task)
     → IsWellFormed p → EntersNew p s → Came d p s i u → IsWeight u.weight × (u.v ≤ 2 ^ 62)
 step_ends d p s i u w n (Was f) = (w.weights i u f, w.ends i u f)

@@ -11,6 +11,7 @@ use Rattle.bq_cfs.proofs.SpreadStayLemmas.{idle_processor, busy_processor}
 use Rattle.bq_fairness.specs.Histories.{history}
 use Rattle.bq_fairness.specs.Steps.{Decide, stepped}
 
+-- a task that enters adds its own number to a sum
 sum_of-inserted : (f : Task → ℕ) (t : Task) (xs : List Task) → sum_of f (inserted t xs) ≡ f t + sum_of f xs
 sum_of-inserted f t [] = refl
 sum_of-inserted f t (x ∷ xs) =
@@ -21,10 +22,12 @@ sum_of-inserted f t (x ∷ xs) =
 
 -- A decision
 
+-- a sum stays as a task of the queue starts, if there is one
 sum_started : (f : Task → ℕ) (i : ℕ) (q : List Task) (o : Option Task) → find_task i q ≡ o → sum_of f (present o (without i q)) ≡ sum_of f q
 sum_started f i q None e = ap (sum_of f) (without-absent i q e)
 sum_started f i q (Some m) e = sym (sum_of-without f i q m e)
 
+-- a sum stays as the current task and one of the queue change places, and as a task starts where nothing ran
 sum_exchanged : (f : Task → ℕ) (q : List Task) (mark last i : ℕ) (u : Task) (o : Option Task)
     → find_task i q ≡ o
     → sum_of f (present_at (exchanged (busy_processor q mark u last) u o)) ≡ sum_of f (u ∷ q)
@@ -55,6 +58,7 @@ sum_ticked f d p now =
 
 -- A charge
 
+-- where nothing runs a charge leaves each sum, and where a task runs its own part changes
 charge_idle : (f : Task → ℕ) (d : Discipline) (q : List Task) (mark : ℕ) (o : Option Task) (last now : ℕ)
     → o ≡ None
     → (let p : Running = record { queue = q; mark = mark; current = o; last = last } in
@@ -83,6 +87,7 @@ pub sum_busy : (f : Task → ℕ) (d : Discipline) (p : Running) (now : ℕ) (t 
     → sum_of f (present_at (ticked d p now)) + f t ≡ sum_of f (present_at p) + f (charged d t (rise p now))
 sum_busy f d p now t e = ap (λ n. n + f t) (sum_ticked f d p now) ∙ charge_busy f d p.queue p.mark p.current p.last now t e
 
+-- whether a task runs or none, a Tick leaves a sum of what a charge leaves as it is
 sum_stays_by : (f : Task → ℕ) (d : Discipline) (p : Running) (now : ℕ) (o : Option Task)
     → p.current ≡ o → ((t : Task) (n : ℕ) → f (charged d t n) ≡ f t)
     → sum_of f (present_at (ticked d p now)) ≡ sum_of f (present_at p)

@@ -16,9 +16,11 @@ use Rattle.bq_fairness.proofs.NearThroughoutLemmas.{Each, OfEachEntered, IsReach
 
 -- CFS
 
+-- the premise that every task meets
 abbrev Anyhow : Task → Type 0
 Anyhow t = Unit {0}
 
+-- each task that enters by any steps meets it
 anyhow : (ss : List ProcessorStep) → OfEachEntered Anyhow ss
 anyhow [] = tt
 anyhow (Pass now ∷ ss) = (tt, anyhow ss)
@@ -27,6 +29,7 @@ anyhow (Enter t ∷ ss) = (tt, anyhow ss)
 anyhow (Leave k ∷ ss) = (tt, anyhow ss)
 anyhow (Mark ∷ ss) = (tt, anyhow ss)
 
+-- under CFS each task reaches 1,000,000 beyond its v: the rule lets none run that is beyond what another reaches
 cfs_reach : IsReach cfs (λ t. t.v + 1000000) Anyhow
 cfs_reach = record {
   keeps = λ t x e h. tt;
@@ -50,6 +53,7 @@ cfs_serves_throughout r p ss i j a b s room new le f g si sj =
 
 -- EEVDF
 
+-- each task that enters due within one slice meets the premise to be due so
 due_of_entered : (ss : List ProcessorStep) → EntersDue ss → OfEachEntered IsDue ss
 due_of_entered [] h = tt
 due_of_entered (Pass now ∷ ss) h = (tt, due_of_entered ss h)
@@ -58,6 +62,7 @@ due_of_entered (Enter t ∷ ss) h = (record { low = h.0.0; high = h.0.1 }, due_o
 due_of_entered (Leave k ∷ ss) h = (tt, due_of_entered ss h)
 due_of_entered (Mark ∷ ss) h = (tt, due_of_entered ss h)
 
+-- under EEVDF each task reaches its deadline: the rule lets none run that is beyond another's deadline
 eevdf_reach : IsReach eevdf (λ t. t.deadline) IsDue
 eevdf_reach = record {
   keeps = charged_due;

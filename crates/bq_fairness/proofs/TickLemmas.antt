@@ -18,6 +18,7 @@ pub data Change (d : Discipline) (p : Running) (now i : ℕ) (t u : Task) : Type
 abbrev pub Changed : Discipline → Running → ℕ → ℕ → Task → Option Task → Type 0
 Changed d p now i t o = (u : Task) × (o ≡ Some u) × Change d p now i t u
 
+-- a charge changes the task of an id so, whether it is the one that runs or not
 charged_by_test : (d : Discipline) (q : List Task) (mark last now i : ℕ) (c t : Task) (b : Bool)
     → eqb c.id i ≡ b → cond b (Some c) (find_task i q) ≡ Some t
     → Changed d (record { queue = q; mark = mark; current = Some c; last = last }) now i t
@@ -31,6 +32,7 @@ charged_by_test d q mark last now i c t true e f =
     )
 charged_by_test d q mark last now i c t false e f = (t, f, Stays refl (rw e refl))
 
+-- a charge changes a task that is present so, and ids stay distinct, at a processor given by its parts
 charge_changes : (d : Discipline) (q : List Task) (mark : ℕ) (o : Option Task) (last now i : ℕ) (t : Task)
     → (let p : Running = record { queue = q; mark = mark; current = o; last = last } in
     task_at i p ≡ Some t → Changed d p now i t (task_at i (charge d p now)))
@@ -67,6 +69,7 @@ tick_changed d p now i t h f =
     let k = tick_keeps d p now h in
     (c.0, k.same i ∙ c.1, c.2)
 
+-- an id that no task has before a charge, none has after it
 nobody_by_test : (b : Bool) (c u v : Task) (o : Option Task) → cond b (Some c) o ≡ None → cond b (Some v) o ≡ Some u → ⊥
 nobody_by_test true c u v o e f = cc
 nobody_by_test false c u v o e f = cc
@@ -77,6 +80,7 @@ nobody : (d : Discipline) (q : List Task) (mark : ℕ) (o : Option Task) (last n
 nobody d q mark None last now i u e f = cc
 nobody d q mark (Some c) last now i u e f = nobody_by_test (eqb c.id i) c u (charged d c (reading last now - last)) (find_task i q) e f
 
+-- each task that is present after a charge was present before, and has changed so, given what its id stood for
 came_by : (d : Discipline) (p : Running) (now i : ℕ) (u : Task) (o : Option Task)
     → task_at i p ≡ o → task_at i (charge d p now) ≡ Some u
     → (t : Task) × (task_at i p ≡ Some t) × Change d p now i t u

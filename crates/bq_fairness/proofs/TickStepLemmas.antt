@@ -10,14 +10,17 @@ use Rattle.bq_fairness.specs.CfsFairness.{CfsServesInProportion, CfsServesWithin
 use Rattle.bq_fairness.specs.EevdfDeadlines.{EevdfServesBySlices}
 use Rattle.bq_fairness.proofs.ThroughoutLemmas.{cfs_serves_throughout, eevdf_serves_throughout}
 
+-- Ticks as steps: at each the time passes, and the rule decides
 abbrev steps_of : List ℕ → List ProcessorStep
 steps_of [] = []
 steps_of (now ∷ nows) = Pass now ∷ Decide ∷ steps_of nows
 
+-- the steps of Ticks serve a task what the Ticks do
 served_same : (i : ℕ) (d : Discipline) (p : Running) (nows : List ℕ) → served_by i d p (steps_of nows) ≡ served i d p nows
 served_same i d p [] = refl
 served_same i d p (now ∷ nows) = let rest = served_same i d (ticked d p now) nows in omega arith
 
+-- by the steps of Ticks no task enters, so each that does is new, and due as it must be
 none_enters : (d : Discipline) (p : Running) (nows : List ℕ) → EachEntersNew d p (steps_of nows)
 none_enters d p [] = tt
 none_enters d p (now ∷ nows) = (tt, (tt, none_enters d (ticked d p now) nows))
@@ -26,10 +29,12 @@ none_due : (nows : List ℕ) → EntersDue (steps_of nows)
 none_due [] = tt
 none_due (now ∷ nows) = none_due nows
 
+-- where the clock rises by at most r at each Tick, it does so between two decisions
 within : (r : ℕ) (d : Discipline) (p : Running) (nows : List ℕ) → TicksRiseByAtMost r d p nows → DecidesWithin r d 0 p (steps_of nows)
 within r d p [] h = tt
 within r d p (now ∷ nows) h = let le = h.0 in (omega arith, (omega arith, within r d (ticked d p now) nows h.1))
 
+-- by the steps of Ticks no task leaves
 none_leaves : (i : ℕ) (nows : List ℕ) → StaysThroughout i (steps_of nows)
 none_leaves i [] = tt
 none_leaves i (now ∷ nows) = (refl, (refl, none_leaves i nows))

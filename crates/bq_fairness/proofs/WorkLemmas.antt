@@ -16,6 +16,7 @@ use Rattle.bq_fairness.proofs.SumLemmas.{total_weight-ticked, weighted_sum-busy,
 
 -- Where a task runs, one does after each Tick
 
+-- where a task runs, one runs after an exchange, after any decision, after the rule's decision, and after a Tick
 busy_exchanged : (q : List Task) (mark last : ℕ) (u : Task) (o : Option Task)
     → IsSome (exchanged (busy_processor q mark u last) u o).current
 busy_exchanged q mark last u None = refl
@@ -50,6 +51,7 @@ stays_busy d p now h = stays_busy_by d p.queue p.mark p.current p.last now h
 nearly : (x w : ℕ) → 15 ≤ w → w ≤ 88761 → x * 1024 ≤ w * vdelta_of x w + 88760
 nearly x w low high = omega arith
 
+-- what a Tick books is the time that passes, except for less than a weight
 books_by : (d : Discipline) (p : Running) (now : ℕ) (o : Option Task)
     → p.current ≡ o → IsWellFormed p → IsSome o
     → (booked_at p now ≤ 1024 * rise p now) × (1024 * rise p now ≤ booked_at p now + 88760)
@@ -64,11 +66,13 @@ books_by d p now (Some t) e w h =
     let near = nearly x t.weight range.0 range.1 in
     rw here (omega arith, omega arith)
 
+-- the clock does not fall, and what Ticks book is the time that passes, except for less than a weight at each
 abbrev Books : Discipline → Running → List ℕ → Type 0
 Books d p nows =
     (p.last ≤ (history d p nows).last) × (booked d p nows ≤ 1024 * elapsed d p nows)
     × (1024 * elapsed d p nows ≤ booked d p nows + 88760 * length nows)
 
+-- where a task runs, any number of Ticks book so
 books : (d : Discipline) (p : Running) (nows : List ℕ) → IsWellFormed p → IsSome p.current → Books d p nows
 books d p [] w h = (omega arith, omega arith, omega arith)
 books d p (now ∷ nows) w h =
@@ -90,6 +94,7 @@ books_the_time d p nows s h = let b = books d p nows (well_formed p s) h in (b.1
 
 -- What it moves
 
+-- what a Tick books is what the weighted sum rises by, whether a task runs or none
 moves_by : (d : Discipline) (p : Running) (now : ℕ) (o : Option Task)
     → p.current ≡ o → IsWellFormed p → EachHasRoom p
     → weighted_v_at (ticked d p now) ≡ weighted_v_at p + booked_at p now
@@ -107,6 +112,7 @@ moves_by d p now (Some t) e w room =
     let sum = weighted_sum-busy d p now t e in
     omega arith
 
+-- what Ticks book is what the weighted sum rises by, and the weights stay, for a well formed processor with room
 moves : (d : Discipline) (p : Running) (nows : List ℕ) → IsWellFormed p → EachHasRoom p
     → (weighted_v_at (history d p nows) ≡ weighted_v_at p + booked d p nows) × (weight_present (history d p nows) ≡ weight_present p)
 moves d p [] w room = (omega arith, refl)

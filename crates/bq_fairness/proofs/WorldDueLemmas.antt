@@ -30,6 +30,7 @@ pub entered_due : (v slice weight : ℕ) → v ≤ 2 ^ 62
     → (v ≤ advance_of v slice weight) × (advance_of v slice weight ≤ v + vdelta_of slice weight)
 entered_due v slice weight h = (omega arith, omega arith)
 
+-- each task that enters by some steps is due so, by cases: woken tasks, a pulled one, a start, a leave, one of two lists
 entries_due : (mark : ℕ) (tasks : List Task) → EntersDue (entries eevdf mark tasks)
 entries_due mark [] = tt
 entries_due mark (t ∷ tasks) = (

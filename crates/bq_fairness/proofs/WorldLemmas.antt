@@ -37,6 +37,7 @@ use Rattle.bq_fairness.proofs.WorldDueLemmas.{shift_ends, entered_due, EntersDue
 
 -- What is kept from the opening on
 
+-- a step from a world of sound tasks leaves one
 step_sound : (d : Discipline) (P : Task → Type 0) → IsKept d P
     → (w : World) (e : Event) (calls : List CounterCall) (a : Result Reply Refusal) (w' : World)
     → WorldStep (by_programs d) w e calls a w' → IsSoundWorld P w
@@ -50,6 +51,7 @@ record IsReached (P : Task → Type 0) (count : ℕ) (w : World) : Type 0 where
   orderly : IsOrderly w
   sound : IsSoundWorld P w
 
+-- such a world is reached by a step from one, by any number of steps from one, and by any history from the opening
 step_reached : (d : Discipline) (P : Task → Type 0) → IsKept d P
     → (count : ℕ) (w : World) (e : Event) (calls : List CounterCall) (a : Result Reply Refusal) (w' : World)
     → IsReached P count w → WorldStep (by_programs d) w e calls a w'
@@ -101,6 +103,7 @@ each_at P w at o s =
     All-from_ids P (present_at (running_at w at)) (distinct_at w at o)
     (λ i t f. each_found P i (present_at (running_at w at)) t (holds_present P (running_at w at) (s.running at)) f)
 
+-- what is present at a processor of a world with sound tasks is sound
 sound_at : (d : Discipline) (P : Task → Type 0) → IsKept d P → (w : World) (at : ℕ) → IsOrderly w → IsSoundWorld P w
     → AreTasksSound (running_at w at)
 sound_at d P k w at o s =
@@ -109,6 +112,7 @@ sound_at d P k w at o s =
 
 -- CFS
 
+-- CFS keeps the weight and the v of each task in their ranges
 cfs_keeps : IsKept cfs IsBounded
 cfs_keeps = record {
   weight = λ t h. h.0;
@@ -118,6 +122,7 @@ cfs_keeps = record {
   pulled = λ mark t h. (h, shift_ends mark t.rel);
 }
 
+-- how far two tasks come apart, in terms of what each was served and where it began
 apart_by : (m r av bv iv jv uv tv x : ℕ) → uv ≡ av + iv → tv ≡ bv + jv → av + iv ≤ jv + m + x → uv + bv ≤ tv + m + x
 apart_by m r av bv iv jv uv tv x e f h = omega arith
 
@@ -147,6 +152,7 @@ record IsTimed (t : Task) : Type 0 where
   range : IsBounded t
   due : IsDue t
 
+-- EEVDF keeps each task in its ranges, and due within one slice
 eevdf_keeps : IsKept eevdf IsTimed
 eevdf_keeps = record {
   weight = λ t h. h.range.0;
@@ -162,6 +168,7 @@ eevdf_keeps = record {
       record { range = (h, ends); due = record { low = due.0; high = due.1 } };
 }
 
+-- each task that enters in a history under EEVDF is due within one slice
 history_due : (at : ℕ) (w w' : World) (es : List Event) (more : List (List CounterCall))
     (answers : List (Result Reply Refusal)) (ss : List ProcessorStep)
     → IsSeenAt eevdf at w es more answers w' ss → EntersDue ss
@@ -171,6 +178,7 @@ history_due at w w' (e ∷ es) (calls ∷ more) (a ∷ answers) ss h =
     (EntersDue-append (steps_at eevdf at w e a) h.1 (event_due at w h.0 e calls a h.2) (history_due at h.0 w' es more answers h.1 h.4))
 history_due at w w' es more answers ss h = absurd h
 
+-- each task at a processor of such a world is due within one slice from where it stands
 deadlines_at : (w : World) (at : ℕ) → IsOrderly w → IsSoundWorld IsTimed w → HasDeadlines (running_at w at)
 deadlines_at w at o s = λ i x l. let t = each_at IsTimed w at o s i x l in (t.due.low, t.due.high)
 

@@ -36,6 +36,7 @@ count_entered id t q (Some c) = omega (arith, count_of-inserted id t q)
 before_it : (t : Task) (xs tasks : List Task) → HasEachOnce (xs ++ t ∷ tasks) → find_task t.id xs ≡ None
 before_it t xs tasks h = find_task-absent t.id xs (omega (arith, h t.id, one_self t, count_of-append t.id xs (t ∷ tasks)))
 
+-- woken tasks that enter one after another are new, if each is there once with those that are present
 entries_new : (d : Discipline) (P : Task → Type 0) → IsKept d P → (p : Running) (mark : ℕ) (tasks : List Task)
     → HasEachOnce (present_at p ++ tasks) → Each HasWeight tasks
     → EachEntersNew d p (entries d mark tasks)
@@ -61,6 +62,7 @@ pub EachEntersNew-append : (d : Discipline) (p : Running) (ss rs : List Processo
 EachEntersNew-append d p [] rs h k = k
 EachEntersNew-append d p (s ∷ ss) rs h k = (h.0, EachEntersNew-append d (stepped d p s) ss rs h.1 k)
 
+-- no task enters as the queue's choice starts, or as a task leaves
 begins_new : (d : Discipline) (p : Running) (o : Option Task) → EachEntersNew d p (decide_if_idle o)
 begins_new d p None = (tt, tt)
 begins_new d p (Some t) = tt
@@ -69,6 +71,7 @@ leaving_new : (d : Discipline) (p : Running) (task : Option ℕ) → EachEntersN
 leaving_new d p None = (tt, tt)
 leaving_new d p (Some id) = (tt, (tt, tt))
 
+-- a pulled task is new, if its weight is of the table's range and none that is present has its id
 entry_new : (d : Discipline) (P : Task → Type 0) → IsKept d P → (p : Running) (o : Option Task)
     → ((t : Task) → o ≡ Some t → HasWeight t × (find_task t.id (present_at p) ≡ None))
     → EachEntersNew d p (enter_if_pulled d p o)
@@ -79,6 +82,7 @@ entry_new d P k p (Some t) h =
     let held = k.pulled p.mark t f.0 in
     (record { id = f.1; weight = k.weight u held; ends = k.ends u held }, tt)
 
+-- the task that is taken from a queue, if it was there, was counted there
 found_counted : (mark id : ℕ) (q : List Task) (r : Option Task) (o : Option Task)
     → find_task id q ≡ o → (t : Task) → option_map (left_at mark) o ≡ Some t → 1 ≤ count_of_id t.id (present r q)
 found_counted mark id q r None e t f = cc
@@ -107,6 +111,7 @@ elsewhere d w processor from now task t o apart e =
       there,
     ))
 
+-- of two lists of steps, each task that enters by the one that is made is new
 if_at : (d : Discipline) (p : Running) (ss rs : List ProcessorStep) (t : Bool)
     → (t ≡ true → EachEntersNew d p ss) → (t ≡ false → EachEntersNew d p rs)
     → EachEntersNew d p (cond t ss rs)

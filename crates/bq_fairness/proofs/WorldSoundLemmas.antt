@@ -35,6 +35,7 @@ use Rattle.bq_core.proofs.OnTheWayLemmas.{same_everywhere}
 abbrev pub Each : (Task → Type 0) → List Task → Type 0
 Each P xs = AllByRecursion P xs
 
+-- what is true of the first task and of the one found behind it is true of the one that is found
 each_found_by : (P : Task → Type 0) (b : Bool) (x t : Task) (o : Option Task) → P x → (o ≡ Some t → P t) → cond b (Some x) o ≡ Some t → P t
 each_found_by P true x t o h rest e = let same : x ≡ t = cc in subst P same h
 each_found_by P false x t o h rest e = rest e
@@ -44,6 +45,7 @@ pub each_found : (P : Task → Type 0) (id : ℕ) (xs : List Task) (t : Task) �
 each_found P id [] t h e = cc
 each_found P id (x ∷ xs) t h e = each_found_by P (has_id id x) x t (find_task id xs) h.0 (each_found P id xs t h.1) e
 
+-- what is true of each task stays so as one comes of which it is true
 each_place_by : (P : Task → Type 0) (b : Bool) (t x : Task) (xs rest : List Task)
     → P t → P x → Each P xs → Each P rest → Each P (cond b (t ∷ x ∷ xs) (x ∷ rest))
 each_place_by P true t x xs rest p q h r = (p, (q, h))
@@ -53,6 +55,7 @@ each_place : (P : Task → Type 0) (t : Task) (xs : List Task) → P t → Each 
 each_place P t [] p h = (p, tt)
 each_place P t (x ∷ xs) p h = each_place_by P (runs_before t x) t x xs (inserted t xs) p h.0 h.1 (each_place P t xs p h.1)
 
+-- what is true of each task stays so as one is taken out
 each_without_by : (P : Task → Type 0) (b : Bool) (x : Task) (xs rest : List Task)
     → P x → Each P xs → Each P rest → Each P (cond b xs (x ∷ rest))
 each_without_by P true x xs rest p h r = h
@@ -62,6 +65,7 @@ each_without : (P : Task → Type 0) (id : ℕ) (xs : List Task) → Each P xs �
 each_without P id [] h = tt
 each_without P id (x ∷ xs) h = each_without_by P (has_id id x) x xs (without id xs) h.0 h.1 (each_without P id xs h.1)
 
+-- what is true of each task of two lists is true of each of both joined
 each_append : (P : Task → Type 0) (xs ys : List Task) → Each P xs → Each P ys → Each P (xs ++ ys)
 each_append P [] ys h k = k
 each_append P (x ∷ xs) ys h k = (h.0, each_append P xs ys h.1 k)
@@ -85,6 +89,7 @@ pub record Holds (P : Task → Type 0) (p : Running) : Type 0 where
   pub current : (t : Task) → p.current ≡ Some t → P t
   pub queue : Each P p.queue
 
+-- what holds of the task that runs, if one does, and of each in the queue holds of each that is present
 each_present : (P : Task → Type 0) (q : List Task) (o : Option Task) → ((t : Task) → o ≡ Some t → P t) → Each P q → Each P (present o q)
 each_present P q None c h = h
 each_present P q (Some t) c h = (c t refl, h)
@@ -93,6 +98,7 @@ each_present P q (Some t) c h = (c t refl, h)
 pub holds_present : (P : Task → Type 0) (p : Running) → Holds P p → Each P (present_at p)
 holds_present P p h = each_present P p.queue p.current h.current h.queue
 
+-- it is true of the task that runs once its time is charged
 charged_current : (d : Discipline) (P : Task → Type 0) → IsKept d P → (o : Option Task) (x : ℕ)
     → ((t : Task) → o ≡ Some t → P t) → (u : Task) → option_map (λ t. charged d t x) o ≡ Some u
     → P u
@@ -103,6 +109,7 @@ charged_current d P k (Some t) x c u e = let same : charged d t x ≡ u = cc in 
 pub holds_charge : (d : Discipline) (P : Task → Type 0) → IsKept d P → (p : Running) (now : ℕ) → Holds P p → Holds P (charge d p now)
 holds_charge d P k p now h = record { current = charged_current d P k p.current _ h.current; queue = h.queue }
 
+-- it stays so as a task of the queue starts, and as the queue's choice does
 holds_run : (P : Task → Type 0) (p : Running) (o : Option ℕ) → Holds P p → Holds P (run_id p o)
 holds_run P p None h = h
 holds_run P p (Some id) h = record { current = λ t e. each_found P id p.queue t h.queue e; queue = each_without P id p.queue h.queue }
@@ -110,6 +117,7 @@ holds_run P p (Some id) h = record { current = λ t e. each_found P id p.queue t
 holds_start : (d : Discipline) (P : Task → Type 0) (p : Running) → Holds P p → Holds P (choice_started d p)
 holds_start d P p h = holds_run P p (id_of (d.choice p.queue)) h
 
+-- it stays so as a task takes the place of the current one, and whatever is decided
 holds_exchanged : (P : Task → Type 0) (p : Running) (old : Task) (o : Option Task)
     → Holds P p → P old → ((t : Task) → o ≡ Some t → P t) → Holds P (exchanged p old o)
 holds_exchanged P p old None h po c = h
@@ -127,6 +135,7 @@ holds_decided d P p (Some t) true e h =
     let id = next_of d t p.queue in
     holds_exchanged P p t (find_task id p.queue) h (h.current t e) (λ u f. each_found P id p.queue u h.queue f)
 
+-- it stays so as woken tasks enter the queue, if their weights are of the table's range
 each_entered : (d : Discipline) (P : Task → Type 0) → IsKept d P → (mark : ℕ) (queue tasks : List Task) → Each P queue
     → Each HasWeight tasks
     → Each P (entered d mark queue tasks)
@@ -135,6 +144,7 @@ each_entered d P k mark queue (t ∷ tasks) h w =
     each_entered d P k mark (inserted (woken d mark t) queue) tasks
     (each_place P (woken d mark t) queue (k.woken mark t w.0) h) w.1
 
+-- it stays so as a pulled task enters, as the choice starts if nothing runs, and as a task is taken out
 holds_pulled : (d : Discipline) (P : Task → Type 0) → IsKept d P → (p : Running) (o : Option Task)
     → ((t : Task) → o ≡ Some t → HasWeight t) → Holds P p
     → Holds P (with_pulled d p o)
@@ -150,6 +160,7 @@ holds_taken : (P : Task → Type 0) (p : Running) (task : Option ℕ) → Holds 
 holds_taken P p None h = h
 holds_taken P p (Some id) h = record { current = h.current; queue = each_without P id p.queue h.queue }
 
+-- a task of which it is true has a weight of the table's range as it leaves
 left_weight : (d : Discipline) (P : Task → Type 0) → IsKept d P → (mark : ℕ) (o : Option Task)
     → ((t : Task) → o ≡ Some t → P t) → (u : Task) → option_map (left_at mark) o ≡ Some u
     → HasWeight u
@@ -172,9 +183,11 @@ pub record IsSoundWorld (P : Task → Type 0) (w : World) : Type 0 where
   pub placed : (processor : ℕ) → Each HasWeight (inbox w processor)
   pub lobby : (id : ℕ) (t : Task) → entry_of_id w id ≡ Sleeping t → HasWeight t
 
+-- the task in the hand, if there is one, has a weight of the table's range
 abbrev HandIsSound : Processor → Type 0
 HandIsSound q = (c : Carried) → q.hand ≡ Some c → HasWeight c.task
 
+-- a world stays so as a part is written of which it is so, by parts: a processor, an inbox
 sound_processor : (P : Task → Type 0) (w : World) (processor : ℕ) (q : Processor)
     → IsSoundWorld P w → Holds P q.running → HandIsSound q → IsSoundWorld P (with_processor w processor q)
 sound_processor P w processor q s h k = record {
@@ -194,9 +207,11 @@ sound_inbox P w processor tasks s h =
       lobby = s.lobby;
     }
 
+-- the task that sleeps in the entry, if there is one, has a weight of the table's range
 abbrev EntryIsSound : LobbyEntry → Type 0
 EntryIsSound x = (t : Task) → x ≡ Sleeping t → HasWeight t
 
+-- a world stays so as such an entry of the lobby is written, and as a number is drawn
 sound_entry : (P : Task → Type 0) (w : World) (id : ℕ) (x : LobbyEntry)
     → IsSoundWorld P w → EntryIsSound x → IsSoundWorld P (with_lobby w (set w.lobby id x))
 sound_entry P w id x s h =
@@ -210,11 +225,13 @@ sound_entry P w id x s h =
 sound_drawn : (P : Task → Type 0) (w : World) (n : ℕ) → IsSoundWorld P w → IsSoundWorld P (record w { drawn = n })
 sound_drawn P w n s = record { running = s.running; hand = s.hand; placed = s.placed; lobby = s.lobby }
 
+-- a task with such a weight may sleep in an entry
 blocked_is : (t : Task) → HasWeight t → EntryIsSound (Sleeping t)
 blocked_is t h = λ u e. let same : t ≡ u = cc in subst HasWeight same h
 
 -- The table of weights
 
+-- whether a number is in the range of the table's weights
 abbrev is_weight : ℕ → Bool
 is_weight w = nat_le 15 w && nat_le w 88761
 
@@ -226,6 +243,7 @@ weights_by_test (w ∷ ws) e =
     let ends = and_parts (nat_le 15 w) (nat_le w 88761) parts.0 in
     ((leb-true 15 w ends.0, leb-true w 88761 ends.1), weights_by_test ws parts.1)
 
+-- each number of the table of weights is a weight, and so is the one at each place of it
 all_weights : AllByRecursion IsWeight weights
 all_weights = weights_by_test weights refl
 
@@ -234,12 +252,14 @@ weight_there [] k h l = absurd (omega arith)
 weight_there (x ∷ xs) zero h l = h.0
 weight_there (x ∷ xs) (suc k) h l = weight_there xs k h.1 (omega arith)
 
+-- the weight of a nice value that is not refused is in the range
 nice_weight : (n : ℤ) → not (is_nice n) ≡ false → IsWeight (weight_of n)
 nice_weight (pos n) e = weight_there weights (20 + n) all_weights (let l : n ≤ 19 = grind (arith, nat_tests) in omega arith)
 nice_weight (negsuc n) e = weight_there weights (19 - n) all_weights (omega arith)
 
 -- Each event
 
+-- a decision keeps what is true of each that is present, and the task in the hand
 decides_holds : (s : PolicySemantics) (P : Task → Type 0) (processor : ℕ) (p : Processor) (settled : SettledChoice) (q : Processor)
     → Decides s processor p settled q → Holds P p.running → Holds P q.running
 decides_holds s P processor p settled q h k = rw h.1 (holds_decided s.discipline P p.running p.running.current (settled.choice == 1) refl k)
@@ -248,6 +268,7 @@ decides_hand : (s : PolicySemantics) (processor : ℕ) (p : Processor) (settled 
     → Decides s processor p settled q → HandIsSound p → HandIsSound q
 decides_hand s processor p settled q h k = rw h.1 k
 
+-- the hand holds one task
 held_task : (x c : Carried) → Some x ≡ Some c → x.task ≡ c.task
 held_task x c e = let same : x ≡ c = cc in ap (λ (y : Carried). y.task) same
 

@@ -1,4 +1,4 @@
--- How many tasks of an id stand among some tasks.
+-- How often an id stands among some tasks, and what of it stays while tasks come, go and run.
 use Rattle.std.proofs.Common.{◌≡◌, ℕ, ◌+◌, ◌≤◌, Bool, true, false, cond, eqb, List, [], ◌∷◌, ◌++◌, Option, Some, None, refl, sym, ap, arith}
 use Rattle.std.proofs.lemmas.Bool.Decides.{nat_tests}
 use Rattle.bq_disc.specs.Tasks.{Task, has_id, find_task, without, inserted, present}
@@ -40,6 +40,7 @@ count_of-without i j xs t h =
 pub one_self : (t : Task) → one t.id t ≡ 1
 one_self t = grind (arith, nat_tests)
 
+-- an id that counts 0 is not found, neither as the first task's nor in the rest
 absent_by_test : (b : Bool) (x : Task) (n : ℕ) (o : Option Task) → cond b 1 0 + n ≡ 0 → (n ≡ 0 → o ≡ None) → cond b (Some x) o ≡ None
 absent_by_test true x n o h rest = absurd (omega arith)
 absent_by_test false x n o h rest = rest (omega arith)

@@ -19,6 +19,7 @@ pub leaving_task_ran : (f : Task → Task) (o : Option Task) (s : Task) → Some
 leaving_task_ran f None s h = absurd (let no : ⊥ = cc in no)
 leaving_task_ran f (Some t) s h = (t, refl, (cc))
 
+-- a task that is counted has an entry in the lobby, if no id beyond the lobby is counted
 below_by_case : (t : Task) (m n : ℕ) → (1024 ≤ t.id → m ≡ 0) → m ≡ one t.id t + n → t.id < 1024
 below_by_case t m n h e = elim (cases_lt t.id 1024) [ inl l ↦ l | inr g ↦ absurd (omega (arith, one_self t, h g, e)) ]
 

@@ -137,6 +137,7 @@ ids_two w processor from l o = λ id h.
       count_of-append id (present_at (processor_at w processor).running) (present_at (processor_at w from).running),
     )
 
+-- an id that counts 0 differs from each id there, by cases: of the first task, of all
 apart_step : (x : Task) (i : ℕ) (n : ℕ) → one i x + n ≡ 0 → eqb i x.id ≡ false
 apart_step x i n h = grind (arith, nat_tests)
 
@@ -144,11 +145,13 @@ apart : (i : ℕ) (xs : List Task) → count_of_id i xs ≡ 0 → AllByRecursion
 apart i [] h = tt
 apart i (x ∷ xs) h = (apart_step x i (count_of_id i xs) h, apart i xs (omega arith))
 
+-- tasks of which no id stands twice have distinct ids
 distinct : (xs : List Task) → HasEachOnce xs → IsDistinct eqb (ids xs)
 unfolding IsDistinct
 distinct [] h = tt
 distinct (x ∷ xs) h = (apart x.id xs (omega (arith, one_self x, h x.id)), distinct xs (λ id. omega (arith, h id)))
 
+-- if no id from n on is counted, each id there is below n, by cases: the first task's and the rest's, all
 below_by_test : (q i n : ℕ) (c b : Bool) → eqb q i ≡ b → i < n → (b || c) ≡ true → (c ≡ true → q < n) → q < n
 below_by_test q i n c true e l k rest = grind (arith, nat_tests)
 below_by_test q i n c false e l k rest = rest k

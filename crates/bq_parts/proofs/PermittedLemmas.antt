@@ -20,6 +20,7 @@ use Rattle.bq_parts.specs.Processors.{Processor, count_of_id, size_of, HasEachOn
 use Rattle.bq_parts.specs.Choices.{PolicySemantics, SettledChoice, SettlesBy, Settles, SettlesPull, own_pull, unasked}
 use Rattle.bq_parts.proofs.CountLemmas.{one}
 
+-- the choice is permitted whether the answer is, or the own choice stands in for it
 by_test : (b : Bool) (permitted : ℕ → Bool) (r0 own : ℕ) → permitted r0 ≡ b → permitted own ≡ true
     → permitted (cond {A = Chosen} b (record { choice = r0; by = who.Policy }) (record { choice = own; by = who.Discipline })).choice
     ≡ true
@@ -31,6 +32,7 @@ pub answer_is_permitted : (permitted : ℕ → Bool) (r0 own : ℕ)
     → permitted own ≡ true → permitted (chosen permitted (Some r0) own).choice ≡ true
 answer_is_permitted permitted r0 own o = by_test (permitted r0) permitted r0 own refl o
 
+-- if the own choice is permitted, what is settled is, with a policy or without one
 settles_by : (s : PolicySemantics) (policy : Option Accepted) (context : Version → List ℕ) (attached : Attached)
     (now processor : ℕ) (permitted : ℕ → Bool) (own : ℕ) (settled : SettledChoice)
     → permitted own ≡ true → SettlesBy s policy context attached now processor permitted own settled
@@ -59,6 +61,7 @@ itself t o = let same : has_id t.id t ≡ true = grind (arith, nat_tests) in rw 
 later : (id : ℕ) (x : Task) (xs : List Task) → is_some (find_task id xs) ≡ true → is_some (find_task id (x ∷ xs)) ≡ true
 later id x xs h = elim (has_id id x) as (λ b. is_some (cond b (Some x) (find_task id xs)) ≡ true) [ true ↦ refl | false ↦ h ]
 
+-- of a task and one found in the rest, the former is found in the whole
 former_there : (before : Task → Task → Bool) (x : Task) (o : Option Task) (xs : List Task)
     → ((y : Task) → o ≡ Some y → is_some (find_task y.id xs) ≡ true)
     → is_some (find_task (former before x o).id (x ∷ xs)) ≡ true
@@ -74,6 +77,7 @@ first_there before (x ∷ xs) m h =
     let is : former before x (first_by before xs) ≡ m = cc in
     subst (λ (y : Task). is_some (find_task y.id (x ∷ xs)) ≡ true) is (former_there before x (first_by before xs) xs (first_there before xs))
 
+-- one that is found counts at least 1, whether it is the first or a later one
 counted_by_test : (b : Bool) (x : Task) (n : ℕ) (o : Option Task)
     → is_some (cond b (Some x) o) ≡ true → (is_some o ≡ true → 1 ≤ n) → 1 ≤ cond b 1 0 + n
 counted_by_test true x n o h rest = omega arith
@@ -93,6 +97,7 @@ count_of-filter id p (x ∷ xs) =
       | false ↦ omega (arith, count_of-filter id p xs)
     ]
 
+-- a task found among the movable ones may use the processor, by whether the first one has its id and may use it
 movable_by_tests : (a b : Bool) (processor id : ℕ) (x t : Task) (xs : List Task)
     → has_id id x ≡ a → can_use processor x ≡ b → HasEachOnce (x ∷ xs)
     → is_some (find_task id (cond b (x ∷ movable processor xs) (movable processor xs))) ≡ true
@@ -118,6 +123,7 @@ movable_can_use processor id (x ∷ xs) t once h k =
     movable_by_tests (has_id id x) (can_use processor x) processor id x t xs refl refl once h k
     (movable_can_use processor id xs t (λ i. omega (arith, once i)))
 
+-- an id that is not found counts 0, with the first task and in the rest
 found_by_test : (b : Bool) (id : ℕ) (x : Task) (xs : List Task)
     → cond b (Some x) (find_task id xs) ≡ None → (find_task id xs ≡ None → count_of_id id xs ≡ 0)
     → cond b 1 0 + count_of_id id xs ≡ 0
@@ -129,6 +135,7 @@ found : (id : ℕ) (xs : List Task) → find_task id xs ≡ None → count_of_id
 found id [] h = refl
 found id (x ∷ xs) h = found_by_test (has_id id x) id x xs h (found id xs)
 
+-- the task of an id found among the movable ones, if the queue has one, may use the processor
 movable_by_case : (processor id : ℕ) (queue : List Task) (o : Option Task)
     → HasEachOnce queue → is_some (find_task id (movable processor queue)) ≡ true → find_task id queue ≡ o
     → option_map_or (can_use processor) o false ≡ true
@@ -141,6 +148,7 @@ named : (processor id : ℕ) (queue : List Task) → HasEachOnce queue → is_so
     → is_movable_to processor id queue ≡ true
 named processor id queue once h = movable_by_case processor id queue (find_task id queue) once h refl
 
+-- the first movable task to be pulled, or none, may be pulled, whether the sizes allow a pull or not
 own_pull_by_case : (processor : ℕ) (queue : List Task) (o : Option Task)
     → HasEachOnce queue → first_by pulled_before (movable processor queue) ≡ o
     → may_pull processor queue (or_nobody (id_of o)) ≡ true
@@ -161,10 +169,12 @@ pub own_pull_permitted : (processor : ℕ) (p from : Processor)
     → may_pull processor from.running.queue (or_nobody (own_pull processor p from)) ≡ true
 own_pull_permitted processor p from once = own_pull_by_test (nat_le (size_of p + 2) (size_of from)) processor from.running.queue once
 
+-- an id of 16 bits, or none, is what the number that stands for it means
 stands_for : (o : Option ℕ) → IfSome o (λ id. id < 2 ^ 16) → o ≡ task_numbered (or_nobody o)
 stands_for None small = refl
 stands_for (Some id) small = grind (arith, nat_tests)
 
+-- if the hook has no version, it has no policy
 none_stands : (policy : Option Accepted) (version : Option Version)
     → version ≡ option_map (λ p. p.version) policy → version ≡ None → policy ≡ None
 none_stands None version e none = refl
@@ -182,6 +192,7 @@ settles_unasked s processor from p other version e none small = (
   stands_for (own_pull processor p other) small,
 )
 
+-- a number that means an id is that id, and its task may move
 numbered : (b : Bool) (n id : ℕ) (moves : Bool) → cond b None (Some n) ≡ Some id → (b || moves) ≡ true → (n ≡ id) × (moves ≡ true)
 numbered true n id moves e h = cc
 numbered false n id moves e h = (cc, h)

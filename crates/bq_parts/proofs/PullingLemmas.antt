@@ -24,6 +24,7 @@ ids_right xs ys h = λ id l. omega (arith, h id l, count_of-append id xs ys)
 few_running : (p : Running) → HasEachOnce (present_at p) → HasLobbyIds (present_at p) → length (present_at p) ≤ 1024
 few_running p h k = few_below (present_at p) 1024 h k
 
+-- a change of the current task, if there is one, leaves the number of tasks
 size_by_case : (f : Task → Task) (o : Option Task) (queue : List Task) → length (present (option_map f o) queue) ≡ length (present o queue)
 size_by_case f None queue = refl
 size_by_case f (Some t) queue = refl
@@ -63,6 +64,7 @@ pulled_free p q id t h f =
     )) in
     subst (λ i. find_task i p.queue ≡ None) (sym (find_task-id id q.queue t f)) free
 
+-- the task that leaves the source's queue, if there is one, has an id that is free at the puller
 fresh_by_case : (id mark : ℕ) (xs ys : List Task) (o : Option Task)
     → find_task id xs ≡ o → ((t : Task) → find_task id xs ≡ Some t → find_task t.id ys ≡ None)
     → IfSome (option_map (left_at mark) o) (λ t. find_task t.id ys ≡ None)

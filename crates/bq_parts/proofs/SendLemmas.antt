@@ -1,4 +1,4 @@
--- A processor may cross threads where its queue may.
+-- A task, one on its way, and a processor may cross threads; the processor where its queue may.
 use denote.RattleType.{RattleType}
 use denote.Struct.Field.{row_field}
 use denote.Param.Send.{IsSend, sendable, view_send}
@@ -23,6 +23,7 @@ unlinked_send = search (crosses, knot.crosses, sendable) depth 60 fits 20000
 pub carried_send : IsSend (Option.the_row Carried.the_row)
 carried_send = search (crosses, knot.crosses, loads.the_send, sendable) depth 60 fits 20000
 
+-- the inside of a processor
 inside_send : (Q R : RattleType) (g : Queue.Ghosts Q.Denot R.Denot) (h : Discipline.Ghosts R.Denot)
     → IsSend Q → IsSend (inside.the_row Q R g h)
 inside_send Q R g h s = declared_send (inside.the_type Q R g h)

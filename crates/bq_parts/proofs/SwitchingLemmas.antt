@@ -4,6 +4,7 @@ use Rattle.std.proofs.lemmas.Bool.Decides.{nat_tests}
 use Rattle.bq_disc.specs.Tasks.{Task}
 use Rattle.bq_disc.specs.Discipline.{Discipline, next_of, next_other}
 
+-- if none other than the current task is next, the current one is; if another is, that one is the next
 none_by_test : (b : Bool) (n i : ℕ) → eqb n i ≡ b → None ≡ cond b None (Some n) → i ≡ n
 none_by_test true n i e h = grind (arith, nat_tests)
 none_by_test false n i e h = cc

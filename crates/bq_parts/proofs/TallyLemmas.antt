@@ -30,6 +30,7 @@ tally-inserted g t (x ∷ xs) =
       | false ↦ omega (arith, tally-inserted g t xs)
     ]
 
+-- a task that is taken counts beside the rest, whether it is the first or a later one
 without_by_test : (b : Bool) (g : ℕ → ℕ → ℕ) (x t : Task) (xs ys : List Task) (o : Option Task)
     → cond b (Some x) o ≡ Some t → (o ≡ Some t → tally g xs ≡ worth g t + tally g ys)
     → tally g (x ∷ xs) ≡ worth g t + tally g (cond b xs (x ∷ ys))
@@ -71,6 +72,7 @@ pub tally-enter_all : (g : ℕ → ℕ → ℕ) (d : Discipline) (p : Running) (
 tally-enter_all g d p tasks =
     omega (arith, tally-present g p.current p.queue (entered d p.mark p.queue tasks), tally-entered g d p.mark p.queue tasks)
 
+-- a task that leaves the queue to run, if it is there, leaves the sum
 tally_of_taken : (g : ℕ → ℕ → ℕ) (i : ℕ) (queue : List Task) (o : Option Task)
     → find_task i queue ≡ o → tally g (present o (without i queue)) ≡ tally g queue
 tally_of_taken g i queue None h = ap (λ xs. tally g xs) (without-absent i queue h)

@@ -1,4 +1,4 @@
--- How large the totals of a tree are.
+-- How large the totals of a tree are: weight, weighted sum and count, of tasks that are in their ranges.
 use Rattle.std.proofs.Common.{◌≡◌, ◌*◌, ◌≤◌, ◌^◌, List, [], ◌∷◌, ◌++◌, length, Option, Some, None, Box, Global, sym, subst, arith}
 use Rattle.std.specs.List.{AllByRecursion}
 use Rattle.std.proofs.Math.Nat.{mul-le-mul_left}
@@ -8,9 +8,11 @@ use Rattle.bq_tree.specs.Trees.{IsTree, IsTreeHeld, IsTreeBehind, in_order, in_o
 use Rattle.bq_tree.specs.Knowing.{knows_sums}
 use Rattle.bq_disc.specs.declared.node.Node.{Node, out-Node, Node', Held-Node-left, None', Some'}
 
+-- the weight and v of each task are in their ranges
 abbrev AllBounded : List Task → Type 0
 AllBounded xs = AllByRecursion IsBounded xs
 
+-- if all tasks of two lists are in their ranges, so are those of both joined
 bounded-append : (xs ys : List Task) → AllBounded xs → AllBounded ys → AllBounded (xs ++ ys)
 bounded-append [] ys h k = k
 bounded-append (x ∷ xs) ys h k = (h.0, bounded-append xs ys h.1 k)
@@ -24,6 +26,7 @@ mutual
   all_held None' h = tt
   all_held (Some' p n) h = all_node n h
 
+-- the bounds of the totals of such tasks: the weight from below, the weight from above, the weighted sum, all three
 weight_low : (xs : List Task) → AllBounded xs → 15 * length xs ≤ total_weight xs
 weight_low [] h = omega arith
 weight_low (x ∷ xs) h = let w = h.0.0.0 in omega (arith, weight_low xs h.1)

@@ -1,4 +1,4 @@
--- How high a balanced tree is, at most.
+-- How high a balanced tree is, at most: 14 for 1,024 nodes, 22 for 65,536.
 use Rattle.std.proofs.Common.{◌≡◌, ℕ, zero, suc, ◌+◌, ◌-◌, ◌*◌, ◌<◌, ◌≤◌, ◌^◌, max, Bool, true, false, nat_lt, nat_le, ◌∷◌, length, length-append, Option, Some, None, Box, Global, refl, arith}
 use Rattle.std.proofs.Math.Pow.{pow_mono}
 use Rattle.std.proofs.Math.Nat.{pow-suc}
@@ -15,6 +15,7 @@ fewest_two (suc n) = let p = fewest_two n in (p.1, p.0 + p.1 + 1)
 abbrev pub fewest : ℕ → ℕ
 fewest n = (fewest_two n).0
 
+-- the fewest nodes rise with the height, but to no more than twice as many and one, by cases: one level, any number of levels
 rises : (n : ℕ) → ((fewest_two n).0 ≤ (fewest_two n).1) × ((fewest_two n).1 ≤ 2 * (fewest_two n).0 + 1)
 rises zero = (omega arith, omega arith)
 rises (suc n) = let h = rises n in (omega arith, omega arith)
@@ -25,6 +26,7 @@ mono (suc k) a b e =
     let f : b ≡ suc (k + a) = omega arith in
     rw f (omega (arith, mono k a (k + a) refl, rises (k + a)))
 
+-- if two balanced sides have at least the fewest nodes of their heights, so has the node above them
 fork_by_tests : (a b k l : ℕ) (p q : Bool) → nat_lt a b ≡ p → nat_lt b a ≡ q → DifferByAtMost 1 a b
     → fewest a ≤ k → fewest b ≤ l
     → fewest (max a b + 1) ≤ k + l + 1
@@ -66,6 +68,7 @@ pub fewest_behind : (knows : Knowledge) (o : Option (Box Node Global))
 fewest_behind knows None h = omega arith
 fewest_behind knows (Some b) h = fewest_node knows b.value h
 
+-- n nodes that are fewer than the fewest of height m + 1 have height at most m
 low_by_test : (m h n : ℕ) (b : Bool) → nat_le h m ≡ b → fewest h ≤ n → n < fewest (m + 1) → h ≤ m
 low_by_test m h n true e f l = grind (arith, nat_tests)
 low_by_test m h n false e f l =
@@ -88,6 +91,7 @@ low_of_many knows o h l =
     low_by_test 22 (height_behind o) (length (in_order_behind o)) (nat_le (height_behind o) 22) refl
     (fewest_behind knows o h) (omega (arith, top))
 
+-- a node whose sides have fewer nodes than levels allow has itself fewer than its levels allow
 full_by : (a b m k l : ℕ) → a ≤ m → b ≤ m → k < 2 ^ a → l < 2 ^ b → k + l + 1 < 2 ^ (m + 1)
 full_by a b m k l p q h i =
     let x : 2 ^ a ≤ 2 ^ m = pow_mono p in

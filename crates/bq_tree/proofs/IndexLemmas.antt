@@ -1,4 +1,4 @@
--- The tree and its table stay sound when a task comes or goes.
+-- The tree, its first key and its table of times stay sound when a task comes or goes.
 use Rattle.std.proofs.Common.{◌≡◌, ◌≢◌, ℕ, ◌+◌, ◌<◌, ◌≤◌, ◌^◌, true, false, cond, eqb, List, [], ◌∷◌, ◌++◌, length, length-append, IfSome, ap, sym, ◌∙◌, Option, Some, None, Box, Global, refl, slice_index, slice_set, get_or-set_other, arith}
 use Rattle.std.specs.Option.{option_map_or}
 use Rattle.std.proofs.lemmas.Bool.Decides.{nat_tests}
@@ -13,6 +13,7 @@ use Rattle.bq_disc.proofs.RisingLemmas.{IsRising-inserted}
 use Rattle.bq_tree.proofs.OrderLemmas.{IsRising-drop}
 use Rattle.bq_tree.proofs.SoundLemmas.{Knows-inserted, Knows-drop, without-amid}
 
+-- an id that fails the test for equality with another is not the same
 apart_by : (i id k : ℕ) → i ≡ id → eqb k id ≡ false → k ≢ i
 apart_by i id k same e = λ q. grind (arith, nat_tests)
 
@@ -28,6 +29,7 @@ room_for_one_more t xs d s n l =
     let few = length-few (inserted t xs) (HasDistinctIds-inserted t xs n d) (HasSmallIds-inserted t xs l s) in
     omega (arith, length-inserted t xs, few)
 
+-- when a task comes, the first key is the lesser of its key and the old first key
 first_placed : (t : Task) (xs : List Task) → Some (lesser_of (key_of t) (first_key xs)) ≡ first_key (inserted t xs)
 first_placed t [] = refl
 first_placed t (x ∷ xs) =
@@ -57,6 +59,7 @@ sound_inserted knows len old new least key times later t s lesser high tree e n 
       knows = rw e (Knows-inserted later t xs here (others xs n s.knows));
     }
 
+-- the first key stays when a task leaves that is not the first
 first_by_test : (xs : List Task) (t : Task) (ys : List Task) (least : Option (ℕ × ℕ))
     → least ≡ first_key (xs ++ t ∷ ys) → option_map_or (λ (k : ℕ × ℕ). eqb k.1 t.id) least false ≡ false
     → least ≡ first_key (xs ++ ys)

@@ -1,4 +1,4 @@
--- A root one of whose sides took one more task.
+-- A root one of whose sides took one more task: its order, its totals and its height.
 use Rattle.std.proofs.Common.{◌≡◌, ℕ, ◌+◌, ◌≤◌, max, Bool, true, false, nat_le, nat_lt, refl, List, ◌∷◌, ◌++◌, length, Option, Some, Box, Global, ap, sym, ◌∙◌, subst, arith}
 use Rattle.std.proofs.lemmas.Bool.Decides.{nat_tests}
 use Rattle.bq_disc.specs.Tasks.{Task, inserted, runs_before}
@@ -32,6 +32,7 @@ counts_one_more n k t tree keeps due totals =
       );
     }
 
+-- a task in its place in one side is in its place in the whole, by cases: left, where it runs before the root's; right
 left_side : (knows : Knowledge) (n k : Node) (t : Task) (new : List Task)
     → IsTree knows n → CountsIn knows n k t → new ≡ inserted t (in_order_behind (out-Node k).left)
     → runs_before t (out-Node k).entity ≡ true
@@ -71,6 +72,7 @@ record Heights (l r h side : ℕ) : Type 0 where
   pub rises : (new : ℕ) → max side r ≤ new → new ≤ max side r + 1 → (DifferByAtMost 1 side r → new ≡ max side r + 1)
       → (h ≤ new) × (new ≤ h + 1)
 
+-- if the sides were balanced and one rose by one level at most, so does the whole
 rises_by_test : (l r side new : ℕ) (b : Bool) → nat_le side (r + 1) ≡ b → DifferByAtMost 1 l r → l ≤ side → side ≤ l + 1
     → max side r ≤ new → new ≤ max side r + 1 → (DifferByAtMost 1 side r → new ≡ max side r + 1)
     → (max l r + 1 ≤ new) × (new ≤ max l r + 2)
@@ -82,6 +84,7 @@ rises_by_test l r side new false e d low high more less same =
     let test : r + 2 ≤ side = grind (arith, nat_tests) in
     (omega (arith, d.0, d.1), omega (arith, d.0, d.1))
 
+-- two balanced sides of which one rose by one level at most differ by two at most, and the whole rises by one at most
 heights : (l r h side : ℕ) → DifferByAtMost 1 l r → h ≡ max l r + 1 → l ≤ side → side ≤ l + 1 → Heights l r h side
 heights l r h side d e low high = record {
   near = (omega (arith, d.0, d.1), omega (arith, d.0, d.1));
@@ -97,6 +100,7 @@ pub record Grows (knows : Knowledge) (link : Option (Box Node Global)) (m : Node
   pub order : in_order m ≡ inserted t (in_order_behind link)
   pub few : length (in_order m) ≡ length (in_order_behind link) + 1
 
+-- a fork with the root's tasks and one more in its place has all that is behind the link and that task
 grown : (knows : Knowledge) (link : Option (Box Node Global)) (n m : Node) (t : Task)
     → IsRootBehind knows link n → IsFork knows m → in_order m ≡ inserted t (in_order n) → Grows knows link m t
 grown knows link n m t r fork order =
@@ -193,6 +197,7 @@ rises_right knows link n k t new behind c low high =
       rises = rw (left, right, turn) (λ high more less same. h.rises high more less (λ d. same (d.1, d.0)));
     }
 
+-- a height that is not below another, nor above it by the test, is equal to it
 not_grown : (a b : ℕ) → a ≤ b → nat_lt a b ≡ false → b ≡ a
 not_grown a b l e = grind (arith, nat_tests)
 

@@ -1,4 +1,4 @@
--- A root, by its fields.
+-- A root by its fields: its tasks in order, its height, and what its two sides are.
 use Rattle.std.proofs.Common.{◌≡◌, ℕ, ◌+◌, max, ◌≤◌, ◌∷◌, ◌++◌, length, length-append, Option, Some, None, Box, Global, refl, ap, sym, ◌∙◌, subst, arith}
 use Rattle.bq_disc.specs.Tasks.{Task}
 use Rattle.bq_disc.specs.Totals.{IsBounded}

@@ -1,4 +1,4 @@
--- Lists of tasks by rising (v, id), cut at a task.
+-- Lists of tasks by rising (v, id), cut at a task: their two parts, and the tasks put in or taken out there.
 use Rattle.std.proofs.Common.{◌≡◌, ℕ, true, false, cond, List, [], ◌∷◌, ◌++◌, Option, Some, None, refl, ap, sym, ◌∙◌, append_assoc, arith}
 use Rattle.std.specs.List.{AllByRecursion}
 use Rattle.std.proofs.lemmas.Bool.Decides.{nat_tests}
@@ -12,6 +12,7 @@ use Rattle.bq_tree.specs.Taking.{is_task_at, IsAbsent, TakesOut, FindsTask}
 abbrev pub RunsBeforeNone : Task → List Task → Type 0
 RunsBeforeNone x xs = AllByRecursion (λ (y : Task). runs_before x y ≡ false) xs
 
+-- if no task of a list runs before x, none of its parts does, and the other way round, by cases: front, back, both
 none_front : (x : Task) (xs ys : List Task) → NoneRunsBefore x (xs ++ ys) → NoneRunsBefore x xs
 none_front x [] ys h = tt
 none_front x (y ∷ xs) ys h = (h.0, none_front x xs ys h.1)
@@ -68,9 +69,11 @@ inserted-right t (y ∷ xs) x ys e h =
     let n = not_before t x y e h.0 in
     rw n (ap (λ l. y ∷ l) (inserted-right t xs x ys e h.1))
 
+-- if x comes after (v, id), so does a task that does not run before x
 comes_later : (v id : ℕ) (x y : Task) → comes_after v id x ≡ true → runs_before y x ≡ false → comes_after v id y ≡ true
 comes_later v id x y p q = grind (arith, nat_tests)
 
+-- a task that comes after (v, id) is not the one at (v, id)
 is_at-after : (v id : ℕ) (x : Task) → comes_after v id x ≡ true → is_task_at v id x ≡ false
 is_at-after v id x p = grind (arith, nat_tests)
 
@@ -79,6 +82,7 @@ absent_later : (v id : ℕ) (x : Task) (xs : List Task) → comes_after v id x �
 absent_later v id x [] a h = tt
 absent_later v id x (y ∷ xs) a h = (is_at-after v id y (comes_later v id x y a h.0), absent_later v id x xs a h.1)
 
+-- if x neither comes after (v, id) nor is at it, a task that x does not run before is not at it
 not_at-before : (v id : ℕ) (x y : Task) → comes_after v id x ≡ false → is_task_at v id x ≡ false → runs_before x y ≡ false → is_task_at v id y ≡ false
 not_at-before v id x y p q r = grind (arith, nat_tests)
 
@@ -89,6 +93,7 @@ absent_earlier : (v id : ℕ) (x : Task) (xs : List Task) → comes_after v id x
 absent_earlier v id x [] a n h = tt
 absent_earlier v id x (y ∷ xs) a n h = (not_at-before v id x y a n h.0, absent_earlier v id x xs a n h.1)
 
+-- if no task of two lists is at (v, id), none of both joined is
 absent_join : (v id : ℕ) (xs ys : List Task) → IsAbsent v id xs → IsAbsent v id ys → IsAbsent v id (xs ++ ys)
 absent_join v id [] ys h k = k
 absent_join v id (x ∷ xs) ys h k = (h.0, absent_join v id xs ys h.1 k)

@@ -1,4 +1,4 @@
--- A root that no longer counts a task.
+-- A root that no longer counts a task that has left one of its sides: its totals, its earliest deadline and its tasks.
 use Rattle.std.proofs.Common.{◌≡◌, ℕ, ◌*◌, ◌≤◌, true, false, List, ◌∷◌, ◌++◌, append_assoc, length, length-append, Option, Some, None, Box, Global, ap, sym, ◌∙◌, subst, arith}
 use Rattle.std.specs.Box.{with_value}
 use Rattle.bq_disc.specs.Tasks.{Task}
@@ -87,9 +87,11 @@ pub record Loses (link : Option (Box Node Global)) (k : Node) (v id : ℕ) (t : 
   pub taken : TakesOut v id (in_order_behind link) (Some t) (in_order k)
   pub few : length (in_order k) ≤ length (in_order_behind link)
 
+-- what remains of a list when a task is taken out is no longer than the list
 fewer : (v id : ℕ) (all : List Task) (t : Task) (rest : List Task) → TakesOut v id all (Some t) rest → length rest ≤ length all
 fewer v id all t rest h = omega (arith, ap length h.4, ap length h.5, length-append h.0 (t ∷ h.1), length-append h.0 h.1)
 
+-- if a task is taken out of what hangs from the root, it is taken out of all that is behind the link
 loses : (knows : Knowledge) (link : Option (Box Node Global)) (n k : Node) (v id : ℕ) (t : Task) (rest : List Task)
     → IsRootBehind knows link n → hanging k ≡ rest → TakesOut v id (hanging n) (Some t) rest
     → Loses link k v id t
@@ -98,6 +100,7 @@ loses knows link n k v id t rest root left taken =
     let h : TakesOut v id (in_order_behind link) (Some t) (in_order k) = rw (whole, in_order-hanging k, left) taken in
     record { taken = h; few = fewer v id (in_order_behind link) t (in_order k) h }
 
+-- a root that keeps its task and its sides keeps all that hangs from it
 hanging-kept : (m k : Node) → KeepsSides m k → hanging k ≡ hanging m
 hanging-kept m k h =
     ap (λ o. in_order_behind o ++ (out-Node k).entity ∷ in_order_behind (out-Node k).right) h.left
@@ -142,6 +145,7 @@ pub record Keeps (link : Option (Box Node Global)) (b : Box Node Global) (m : No
   pub same : Some (with_value b m) ≡ link
   pub taken : TakesOut v id (in_order_behind link) None (in_order m)
 
+-- if the root stays as it is and no task is at (v, id), the link stays and nothing is taken
 keeps : (knows : Knowledge) (link : Option (Box Node Global)) (b : Box Node Global) (n m : Node) (v id : ℕ)
     → link ≡ Some b → n ≡ b.value → IsRootBehind knows link n → m ≡ n → IsAbsent v id (hanging n)
     → Keeps link b m v id

@@ -1,4 +1,4 @@
--- The table of times, and what is known of a task by its id.
+-- The table of times knows the v of each task, so what is found or taken at (v, id) is the task of that id.
 use Rattle.std.proofs.Common.{◌≡◌, ℕ, ◌<◌, Bool, true, false, cond, eqb, List, [], ◌∷◌, ◌++◌, Option, Some, None, IfSome, refl, ap, sym, ◌∙◌, slice_index, arith}
 use Rattle.std.proofs.lemmas.Bool.Decides.{nat_tests}
 use Rattle.bq_disc.specs.Tasks.{Task, has_id, find_task, without, inserted, runs_before}
@@ -31,6 +31,7 @@ Knows-other old new id (x ∷ xs) same n k =
     let s = find_task-none id x xs n in
     ((λ l. same x.id s.0 ∙ k.0 l), Knows-other old new id xs same s.1 k.1)
 
+-- a task found by its id has the v that the table has, whether it is the first or a later one
 time_by_test : (b : Bool) (times : List ℕ) (id : ℕ) (x : Task) (o : Option Task)
     → has_id id x ≡ b → id < 1024 → (x.id < 1024 → slice_index times x.id ≡ x.v) → IfSome o (λ t. t.v ≡ slice_index times id)
     → IfSome (cond b (Some x) o) (λ t. t.v ≡ slice_index times id)
@@ -46,6 +47,7 @@ pub time_known : (times : List ℕ) (id : ℕ) (xs : List Task) → id < 1024 �
 time_known times id [] l k = tt
 time_known times id (x ∷ xs) l k = time_by_test (has_id id x) times id x (find_task id xs) refl l k.0 (time_known times id xs l k.1)
 
+-- a task found in the rest is found in the whole, because the first one's id is another
 id_by_test : (b : Bool) (x t : Task) (rest without_rest : List Task) (o : Option Task)
     → has_id t.id x ≡ b → (o ≡ Some t) → find_task x.id rest ≡ None → (b ≡ true → find_task x.id rest ≡ find_task t.id rest)
     → find_task t.id rest ≡ o
@@ -53,6 +55,7 @@ id_by_test : (b : Bool) (x t : Task) (rest without_rest : List Task) (o : Option
 id_by_test true x t rest wr o e h n same f = let g = same refl in cc
 id_by_test false x t rest wr o e h n same f = h
 
+-- a task that passes the test for another's id has the same id, and each task passes it for its own
 same_id : (x t : Task) → has_id t.id x ≡ true → x.id ≡ t.id
 same_id x t e = grind (arith, nat_tests)
 
@@ -67,6 +70,7 @@ find_task-amid (x ∷ xs) t ys d =
     id_by_test (has_id t.id x) x t (xs ++ t ∷ ys) [] (find_task t.id (xs ++ t ∷ ys)) refl rest d.0
     (λ b. ap (λ i. find_task i (xs ++ t ∷ ys)) (same_id x t b)) refl
 
+-- to take out a task of the rest leaves the first one, whose id is another
 out_by_test : (b : Bool) (x t : Task) (rest less : List Task)
     → has_id t.id x ≡ b → find_task x.id rest ≡ None → find_task t.id rest ≡ Some t
     → cond b rest (x ∷ less) ≡ x ∷ less
@@ -80,6 +84,7 @@ without-amid (x ∷ xs) t ys d =
     out_by_test (has_id t.id x) x t (xs ++ t ∷ ys) (without t.id (xs ++ t ∷ ys)) refl d.0 (find_task-amid xs t ys d.1)
     ∙ ap (λ l. x ∷ l) (without-amid xs t ys d.1)
 
+-- if no task is at (v, id) and one of that id would have v, none has that id, whether the first or a later one
 absent_by_test : (b : Bool) (v id : ℕ) (x : Task) (o : Option Task)
     → has_id id x ≡ b → is_task_at v id x ≡ false → IfSome (cond b (Some x) o) (λ t. t.v ≡ v)
     → (IfSome o (λ t. t.v ≡ v) → o ≡ None)

@@ -1,4 +1,4 @@
--- What is known of two lists, of the lists joined.
+-- What is known of two lists, and of a task that comes or goes: their totals, and when the first is due.
 use Rattle.std.proofs.Common.{◌≡◌, ℕ, ◌+◌, Bool, true, false, cond, nat_lt, List, [], ◌∷◌, ◌++◌, Option, Some, None, refl, ap, sym, ◌∙◌, arith, length-append}
 use Rattle.std.proofs.lemmas.Bool.Decides.{nat_tests}
 use Rattle.std.specs.Prelude.{◌==◌, ◌&&◌}
@@ -27,12 +27,14 @@ sums_of-append xs ys =
     let c = length-append xs ys in
     cc
 
+-- to be earlier passes on from one deadline to the next, and so does not to be earlier
 is_earlier-trans : (x y z : Deadline) → is_earlier y x ≡ true → is_earlier z y ≡ true → is_earlier z x ≡ true
 is_earlier-trans x y z p q = grind (arith, nat_tests)
 
 is_earlier-trans_not : (x y z : Deadline) → is_earlier y x ≡ false → is_earlier z y ≡ false → is_earlier z x ≡ false
 is_earlier-trans_not x y z p q = grind (arith, nat_tests)
 
+-- the earliest of three is the same whichever two are compared first, by the results of the three tests
 assoc_by_tests : (x y z : Deadline) (b c d : Bool) → is_earlier y x ≡ b → is_earlier z y ≡ c → is_earlier z x ≡ d
     → earlier_of (earlier_of x y) z ≡ earlier_of x (earlier_of y z)
 assoc_by_tests x y z true true true p q r = rw (p, q, r) refl
@@ -46,6 +48,7 @@ assoc_by_tests x y z false false false p q r = rw (p, q, r, p) refl
 pub earlier_of-assoc : (x y z : Deadline) → earlier_of (earlier_of x y) z ≡ earlier_of x (earlier_of y z)
 earlier_of-assoc x y z = assoc_by_tests x y z (is_earlier y x) (is_earlier z y) (is_earlier z x) refl refl refl
 
+-- numbers neither of which is less are equal, and so are deadlines neither of which is earlier
 same_number : (a b : ℕ) → nat_lt a b ≡ false → nat_lt b a ≡ false → a ≡ b
 same_number a b p q = grind (arith, nat_tests)
 
@@ -56,9 +59,11 @@ same_due x y p q =
     ap (λ n. let r : Deadline = record { deadline = n; id = x.id } in r) d
     ∙ ap (λ n. let r : Deadline = record { deadline = y.deadline; id = n } in r) i
 
+-- of two deadlines at most one is earlier than the other
 not_both : (x y : Deadline) → is_earlier x y ≡ true → is_earlier y x ≡ true → ⊥
 not_both x y p q = grind (arith, nat_tests)
 
+-- the earlier of two is the same in either order, by the results of the two tests
 comm_by_tests : (x y : Deadline) (b c : Bool) → is_earlier y x ≡ b → is_earlier x y ≡ c → earlier_of x y ≡ earlier_of y x
 comm_by_tests x y true true p q = absurd (not_both x y q p)
 comm_by_tests x y true false p q = rw (p, q) refl
@@ -69,6 +74,7 @@ comm_by_tests x y false false p q = rw (p, q) (same_due x y q p)
 pub earlier_of-comm : (x y : Deadline) → earlier_of x y ≡ earlier_of y x
 earlier_of-comm x y = comm_by_tests x y (is_earlier y x) (is_earlier x y) refl refl
 
+-- of a deadline and two that may be missing, the earliest is the same whether the two are compared first or last
 earliest_of-sooner : (x : Deadline) (a b : Option Deadline) → earliest_of x (sooner_of a b) ≡ earliest_of (earliest_of x a) b
 earliest_of-sooner x None b = refl
 earliest_of-sooner x (Some y) None = refl
@@ -96,6 +102,7 @@ first_due-fork xs x ys =
     first_due-append xs (x ∷ ys) ∙ ap (λ o. sooner_of (first_due xs) o) (first_due-cons x ys)
     ∙ sooner_of-fork (due_of x) (first_due xs) (first_due ys)
 
+-- of two deadlines and one that may be missing, the earliest is the same whichever of the two is compared last
 earliest_of-earlier : (x y : Deadline) (o : Option Deadline) → earlier_of x (earliest_of y o) ≡ earlier_of y (earliest_of x o)
 earliest_of-earlier x y None = earlier_of-comm x y
 earliest_of-earlier x y (Some z) = sym (earlier_of-assoc x y z) ∙ ap (λ e. earlier_of e z) (earlier_of-comm x y) ∙ earlier_of-assoc y x z
@@ -112,11 +119,13 @@ first_due-inserted t (x ∷ xs) =
           ∙ ap (λ o. Some (earliest_of (due_of t) o)) (sym (first_due-cons x xs))
     ]
 
+-- totals with equal sums and equal counts are equal
 same_sums : (a b c d : ℕ) (m n : ℕ) → a ≡ b → c ≡ d → m ≡ n
     → (let x : Totals = record { moment = a; weight = c; count = m } in x)
     ≡ (let y : Totals = record { moment = b; weight = d; count = n } in y)
 same_sums a b c d m n p q r = cc
 
+-- if one list's totals are another's with a task added, they are so with one more task in front of both
 added_to : (x t : Task) (xs ys : List Task) → sums_of ys ≡ added (sums_of xs) t → sums_of (x ∷ ys) ≡ added (sums_of (x ∷ xs)) t
 added_to x t xs ys e =
     let moment = ap (λ (s : Totals). s.moment) e in
@@ -158,9 +167,11 @@ first_due-cut xs t ys =
 abbrev pub is_same_due : Deadline → Deadline → Bool
 is_same_due a b = a.deadline == b.deadline && a.id == b.id
 
+-- each deadline is the same as itself
 itself : (d : Deadline) → is_same_due d d ≡ true
 itself d = grind (arith, nat_tests)
 
+-- if the earlier of two deadlines is d, and d is not the first of them, it is the second
 other_by_test : (x y d : Deadline) (b : Bool) → is_earlier y x ≡ b → earlier_of x y ≡ d → is_same_due d x ≡ false → y ≡ d
 other_by_test x y d true e f n = let here : earlier_of x y ≡ y = rw e refl in sym here ∙ f
 other_by_test x y d false e f n =
