@@ -113,6 +113,7 @@ no_stray_end w now processor s h next astray =
 
 -- The task whose phase has ended
 
+-- there are as many streams as counts of the lengths that they have given
 streams_count : (seed first : ℕ) (drawn : List ℕ) → length (streams_after seed first drawn) ≡ length drawn
 streams_count seed first [] = refl
 streams_count seed first (n ∷ ns) = omega (arith, streams_count seed (first + 1) ns)
