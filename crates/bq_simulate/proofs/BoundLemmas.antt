@@ -44,7 +44,7 @@ few_come_at_once = record {
 abbrev pub IsCounted : Workload → ℕ → ℕ → Accounts → Type 0
 IsCounted w came now a = came + steps_left_at w.tasks.items now a ≤ (now + 1) * (steps_at_once w - 1)
 
--- some are counted
+-- at least one thing is counted for an instant
 some-at-once : (w : Workload) → 1 ≤ steps_at_once w
 some-at-once w = omega (arith, processors_in-some w.machine.size)
 

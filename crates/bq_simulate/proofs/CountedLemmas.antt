@@ -70,7 +70,7 @@ front-most (suc n) m rest f (c ∷ cs) long h last =
           (omega (arith, last, same)),
     )
 
--- a task of one of these kinds has twice so much at most as that kind says
+-- a task of one of these kinds has at most twice what is counted for that kind
 pub record IsMost (kinds : List TaskKind) (f : ℕ → TaskProgress → ℕ) (g : TaskKind → ℕ) (task : ℕ) (c : TaskProgress) : Type 0 where
   pub number : ℕ
   pub of : IsTaskOfKind kinds task number

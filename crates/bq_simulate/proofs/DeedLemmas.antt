@@ -139,7 +139,7 @@ GoesOnBy-join takes kinds A B C join x y z s t u goes more drawn had firsts =
     let second = more first.after first.streams first.firsts in
     GoesByDeeds-join takes kinds A B C x y z s t u drawn first second (join first.deeds second.deeds first.are second.are)
 
--- what holds of the deeds by which it goes on holds in other words
+-- from what its streams have given, a simulation that goes on by deeds of one form does by any form that this implies
 pub GoesByDeeds-weaker : {S : Type 0} (takes : S → ℕ → TraceEvent → S → Type 0) (kinds : List TaskKind)
     (A B : List Deed → Type 0)
     → ((xs : List Deed) → A xs → B xs) → (x y : S) (s : Simulation) (drawn : List ℕ) (t : Simulation)
@@ -158,7 +158,7 @@ GoesByDeeds-weaker takes kinds A B weaker x y s drawn t h = record {
   are = weaker h.deeds h.are;
 }
 
--- what holds of its deeds holds in other words
+-- a simulation that goes on by deeds of one form goes on by deeds of any form that this implies
 pub GoesOnBy-weaker : {S : Type 0} (takes : S → ℕ → TraceEvent → S → Type 0) (kinds : List TaskKind) (A B : List Deed → Type 0)
     → ((xs : List Deed) → A xs → B xs) → (x y : S) (s t : Simulation) → GoesOnBy takes kinds A x s y t
     → GoesOnBy takes kinds B x s y t

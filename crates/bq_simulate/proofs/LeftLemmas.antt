@@ -153,7 +153,7 @@ passed-left kinds now from to (Some id) a = omega (
 
 -- The time of a processor is counted
 
--- what runs there has run so long
+-- what runs at a processor has run uncounted since the time of the processor was counted last
 runs-uncounted : (now task : ℕ) (l : ProcessorState) → l.run ≡ Some task → uncounted_at now task l ≡ now - l.since
 runs-uncounted now task l runs =
     ap (λ (o : Option ℕ). if is_same o (Some task) then now - l.since else 0) runs

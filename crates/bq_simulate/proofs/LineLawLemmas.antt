@@ -10,13 +10,13 @@ use Rattle.bq_simulate.specs.Laws.{AreLines, EventsAreRead, MachinesAreRead, IsW
 use Rattle.bq_simulate.proofs.PlainWordLemmas.{allowed-spaced}
 use Rattle.bq_simulate.proofs.ReadingLemmas.{reading-spaced, plain_words, room_words, words_read, machine_words, plain_machine, room_machine, machine_reads}
 
--- the line that asks for an event is read as just that
+-- the line that asks for an event is read as exactly that
 pub events_are_read : EventsAreRead
 events_are_read image event can fits =
     reading-spaced (event_words image event) (plain_words image event can fits) (room_words image event can fits)
     ∙ words_read image event can fits
 
--- the line that asks for a machine is read as just that
+-- the line that asks for a machine is read as exactly that
 pub machines_are_read : MachinesAreRead
 machines_are_read rule size =
     reading-spaced (machine_words rule size) (plain_machine rule size) (room_machine rule size) ∙ machine_reads rule size

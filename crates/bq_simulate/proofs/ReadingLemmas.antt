@@ -190,7 +190,7 @@ words_read image (Pull c from now) can h =
 abbrev pub machine_words : Rule → ProcessorCount → List (List ℕ)
 machine_words rule size = keyword_word keywords.Machine ∷ rule_word rule ∷ decimal (processors_in size) ∷ []
 
--- the word of a rule is plain, and has at most five bytes:
+-- the word of a discipline is plain, and has at most five bytes:
 plain_rule : (rule : Rule) → IsPlain (rule_word rule)
 plain_rule Cfs = known (codes "cfs") refl
 plain_rule Eevdf = known (codes "eevdf") refl
@@ -213,7 +213,7 @@ room_machine rule size =
     let word = short_rule rule in
     omega arith
 
--- the word of a rule is read as that rule
+-- the word of a discipline is read as that discipline
 rule_of-word : (rule : Rule) → rule_of (rule_word rule) ≡ Some rule
 rule_of-word Cfs = refl
 rule_of-word Eevdf = refl

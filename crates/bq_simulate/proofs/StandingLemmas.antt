@@ -101,7 +101,7 @@ passed_keeps : (P : Accounts → Type 0) → IsOfPlaces P → (from to : ℕ) (t
 passed_keeps P of from to None a h = h
 passed_keeps P of from to (Some task) a h = grown_keeps P of to 1 (shrunk from a) (shrunk_keeps P of from a h)
 
--- an event
+-- it holds still after each event
 pub event_keeps : (P : Accounts → Type 0) → IsOfPlaces P
     → (periods : Periods) (event : Event) (reply : Reply) (a : Accounts) → P a
     → P (after_event periods event reply a)
@@ -245,7 +245,7 @@ woken_by_test w sound task kind c true test is h = record {
 }
 woken_by_test w sound task kind c false test is h = advanced_stands w sound task c h
 
--- it does its action
+-- a task that does its action stands at an action of its kind
 acted_stands : (w : Workload) → first_flaw w ≡ None → (action : Option Action) (task length now : ℕ) (c : TaskProgress)
     → next_action w.tasks.items c ≡ action → StandsAtAction w.tasks.items task c
     → StandsAtAction w.tasks.items task (acted w.tasks.items action length now c)

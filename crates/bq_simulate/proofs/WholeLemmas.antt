@@ -58,7 +58,7 @@ Proceeds-join takes policies processors kinds most end =
     opened-join takes policies processors kinds (λ n p. AreMet kinds n p most end) (λ n p. Proceeds policies processors kinds n p most end)
     (λ n p b xs ys opens meets. record { opening = xs; met = ys; whole = refl; opens = opens; meets = meets })
 
--- just that many come due
+-- a simulation that opens, and then meets exactly that many things, proceeds by that many
 pub ProceedsBy-join : {S : Type 0} (takes : S → ℕ → TraceEvent → S → Type 0) (policies : List Accepted) (processors : ℕ)
     (kinds : List TaskKind) (count end : ℕ) (x y z : S) (s t u : Simulation)
     → GoesOnBy takes kinds (Opens policies processors kinds) x s y t
