@@ -437,6 +437,7 @@ length-front front held piece bytes past s r j = omega (arith, ap length j.front
 pub first_bytes : (held piece : List ℕ) → AreBytes held → AreBytes piece → AreBytes (take 44 (held ++ piece))
 first_bytes held piece hh hp = AreBytes-take 44 (held ++ piece) (AreBytes-append held piece hh hp)
 
+-- what is left of the first 44 bytes behind a header is no longer than these bytes are
 pub record Begins (held piece r : List ℕ) : Type 0 where
   pub rest : length r ≤ length (take 44 (held ++ piece))
 

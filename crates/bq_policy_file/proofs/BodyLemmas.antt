@@ -30,6 +30,7 @@ is_clean b = nat_lt b 128 && (not (b == 10) && not (b == 13))
 abbrev pub is_inner : ℕ → Bool
 is_inner b = not (b == 59) && is_clean b
 
+-- a digit ends no line and begins no comment
 digit_inner : (b : ℕ) → is_digit b ≡ true → is_inner b ≡ true
 digit_inner b h =
     let parts = and_parts (nat_le 48 b) (nat_le b 57) h in
@@ -61,12 +62,15 @@ entry_passes test word (x ∷ entries) m h e =
 abbrev is_first_word : List ℕ → Bool
 is_first_word word = nat_lt 0 (length word) && list_all is_inner word
 
+-- each word in the table of mnemonics is such a first word
 all_first_words : list_all (λ e. is_first_word e.0) table ≡ true
 all_first_words = refl
 
+-- the mnemonic of an instruction is such a first word
 first_word : (i : Insn) → is_insn i ≡ true → is_first_word (mnemonic_word (mnemonic_of i)) ≡ true
 first_word i h = entry_passes is_first_word (mnemonic_word (mnemonic_of i)) table (mnemonic_of i) all_first_words (named-again i h)
 
+-- signed numbers, of 32 bits and of 16, end no line and begin no comment:
 signed_decimal_inner : (z : ℤ) → FitsSigned w32 z → list_all is_inner (signed_decimal z) ≡ true
 signed_decimal_inner (pos n) h = decimal_inner n (omega (arith, ints, h))
 signed_decimal_inner (negsuc n) h = decimal_inner (suc n) (omega (arith, ints, h))
@@ -78,6 +82,7 @@ signed_inner (negsuc n) h = decimal_inner (suc n) (omega (arith, ints, h))
 near_inner : (z : ℤ) → FitsSigned w16 z → list_all is_inner (signed_text z) ≡ true
 near_inner z h = signed_inner z (omega (arith, ints, h))
 
+-- operands, one or several, end no line and begin no comment:
 memory_inner : (r : ℕ) (z : ℤ) → r ≤ 10 → FitsSigned w16 z → list_all is_inner (operand_text (operand.Memory r z)) ≡ true
 memory_inner r z h k =
     list_all-append is_inner (decimal r) (signed_text z ++ codes "]") (decimal_inner r (omega arith))

@@ -42,6 +42,7 @@ more_values key before line stated is =
     flat_map-append (λ l. value_in (key_word key) (mark_words l)) before (line ∷ [])
     ∙ ap (λ w. values key before ++ (value_in (key_word key) w ++ [])) is
 
+-- where all lines say known keys, or none, and one more does, all of them do
 more_known : (before : List (List ℕ)) (line : List ℕ) → list_all (λ l. are_known (mark_words l)) before ≡ true
     → are_known (mark_words line) ≡ true
     → list_all (λ l. are_known (mark_words l)) (before ++ line ∷ []) ≡ true

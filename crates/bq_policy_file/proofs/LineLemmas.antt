@@ -21,6 +21,7 @@ ended ls = flat_map (λ l. l ++ 10 ∷ []) ls
 abbrev pub AreClean : List (List ℕ) → Type 0
 AreClean ls = AllByRecursion (λ l. list_all is_clean l ≡ true) ls
 
+-- a clean line has no line feed, and no carriage return:
 no_feed : (bs : List ℕ) → list_all is_clean bs ≡ true → AllByRecursion (λ b. (b == 10) ≡ false) bs
 no_feed [] h = tt
 no_feed (b ∷ bs) h =
@@ -53,6 +54,7 @@ lines_ended [] h = refl
 lines_ended (l ∷ ls) h =
     ap lines (append_assoc l (10 ∷ []) (ended ls)) ∙ line_first l (ended ls) h.0 ∙ ap (λ rest. l ∷ rest) (lines_ended ls h.1)
 
+-- clean lines are ASCII, and so are two texts of ASCII together, and clean lines that are ended:
 ascii_of : (bs : List ℕ) → list_all is_clean bs ≡ true → AllByRecursion (λ b. b < 128) bs
 ascii_of [] h = tt
 ascii_of (b ∷ bs) h =

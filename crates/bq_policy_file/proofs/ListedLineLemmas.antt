@@ -36,6 +36,7 @@ listing_ended (i ∷ insns) =
     let name = mnemonic_word (mnemonic_of i) in
     λ n. sym (append_assoc name (operands_text (operands_of i)) (codes "\n")) n ++ listing_ended insns n
 
+-- the lines of a listing are clean, and none is a mark:
 bodies_clean : (insns : List Insn) → list_all is_insn insns ≡ true → AllFit insns → AreClean (map line_body insns)
 bodies_clean [] h k = tt
 bodies_clean (i ∷ insns) h k =

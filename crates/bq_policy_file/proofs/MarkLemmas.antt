@@ -50,6 +50,7 @@ format_lines Second = codes ";@ format 2" ∷ []
 abbrev pub mark_lines : Hook → List MapShape → Version → List (List ℕ)
 mark_lines h shapes v = hook_line h ∷ (maps_lines shapes ++ format_lines v)
 
+-- the marks of maps and of the format are their lines, each ended:
 maps_ended : (shapes : List MapShape) → maps_mark shapes ≡ ended (maps_lines shapes)
 maps_ended [] = refl
 maps_ended (first ∷ rest) =
@@ -82,6 +83,7 @@ marks_ended p marks are =
 abbrev is_plain : ℕ → Bool
 is_plain b = not (is_space b) && is_clean b
 
+-- digits, and so numbers, are such bytes:
 digit_plain : (b : ℕ) → is_digit b ≡ true → is_plain b ≡ true
 digit_plain b h =
     let parts = and_parts (nat_le 48 b) (nat_le b 57) h in
@@ -94,6 +96,7 @@ digit_plain b h =
 decimal_plain : (n : ℕ) → n < 2 ^ 64 → list_all is_plain (decimal n) ≡ true
 decimal_plain n h = list_all-weaker is_digit is_plain digit_plain (decimal n) (decimal_digits n h)
 
+-- the texts of shapes, one or several, are of such bytes:
 shape_plain : (s : MapShape) → list_all is_plain (shape_text s) ≡ true
 shape_plain s =
     list_all-append is_plain (decimal s.value_size) (58 ∷ decimal s.entries)
@@ -107,12 +110,14 @@ more_plain (s ∷ shapes) = list_all-append is_plain (shape_text s) (more_maps s
 text_plain : (first : MapShape) (rest : List MapShape) → list_all is_plain (shapes_text first rest) ≡ true
 text_plain first rest = list_all-append is_plain (shape_text first) (more_maps rest) (shape_plain first) (more_plain rest)
 
+-- a word of such bytes has no blank
 no_blank : (w : List ℕ) → list_all is_plain w ≡ true → AllByRecursion (λ b. is_space b ≡ false) w
 no_blank [] h = tt
 no_blank (b ∷ w) h =
     let parts = and_parts (is_plain b) (list_all is_plain w) h in
     (not-true (is_space b) (and_parts (not (is_space b)) (is_clean b) parts.0).0, no_blank w parts.1)
 
+-- the line of a hook is clean, and so are those of maps:
 hook_clean : (h : Hook) → list_all is_clean (hook_line h) ≡ true
 hook_clean Place = refl
 hook_clean Preempt = refl
@@ -141,17 +146,20 @@ marks_blank h [] Second = (2, refl)
 marks_blank h (first ∷ rest) First = (2, refl)
 marks_blank h (first ∷ rest) Second = (3, refl)
 
+-- the line of a hook says the hook's word
 hook_states : (h : Hook) → mark_words (hook_line h) ≡ Some (key_word key.Hook ∷ hook_word h ∷ [])
 hook_states Place = refl
 hook_states Preempt = refl
 hook_states Pull = refl
 
+-- the text of shapes is not empty
 text_some : (first : MapShape) (rest : List MapShape) → 0 < length (shapes_text first rest)
 text_some first rest =
     let size = decimal first.value_size in
     let entries = decimal first.entries in
     omega (arith, length-append (size ++ 58 ∷ entries) (more_maps rest), length-append size (58 ∷ entries))
 
+-- the line of maps says the text of their shapes
 maps_state : (first : MapShape) (rest : List MapShape)
     → mark_words (codes ";@ maps " ++ shapes_text first rest) ≡ Some (key_word key.Maps ∷ shapes_text first rest ∷ [])
 maps_state first rest =
@@ -202,9 +210,11 @@ stated_head p =
     head_of (Some p.form.hook) (maps_stated p.form.shapes p.form.shapes.items) (format_stated p.form.version)
     (AreFew-stated p.form.shapes p.form.shapes.items p.form.few)
 
+-- the head before any line says something of it
 begun : Head
 begun = head_of None None None AreFew-none
 
+-- the lines of marks say the head so far: first the hook, then the maps, and then the format:
 states_hook : (h : Hook) (few : AreFew None) → StatesHead (hook_line h ∷ []) (head_of (Some h) None None few)
 unfolding begun
 states_hook h few =
@@ -235,6 +245,7 @@ states_format h maps Second few before s =
 abbrev pub AreNoMarks : List (List ℕ) → Type 0
 AreNoMarks ls = AllByRecursion (λ l. mark_words l ≡ None) ls
 
+-- lines that are no marks leave the head as it was said
 states_others : (head : Head) (before others : List (List ℕ))
     → AreNoMarks others → StatesHead before head → StatesHead (before ++ others) head
 states_others head before [] h s = subst (λ ls. StatesHead ls head) (sym (append-nil before)) s

@@ -28,6 +28,7 @@ stated_has P [] (r ∷ rest) word x h = absurd h
 stated_has P (b ∷ []) rest word x h = absurd h
 stated_has P (b ∷ c ∷ before) rest word x h = absurd h
 
+-- the value of a key in a line that says it is the word behind it
 own_value : (k : Key) (word : List ℕ) → value_in (key_word k) (Some (key_word k ∷ word ∷ [])) ≡ word ∷ []
 own_value key.Hook word = refl
 own_value key.Maps word = refl
@@ -46,6 +47,7 @@ values_at k before rest line word is =
 abbrev IsAlone : {A : Type 0} → (List ℕ → A → Type 0) → List ℕ → List (List ℕ) → Type 0
 IsAlone {A} P word before = (value : A) × P word value × (before ≡ [])
 
+-- where a line says a key of a head, its word names the value, and no line before says that key
 alone : {A : Type 0} (P : List ℕ → A → Type 0) (key : Key) (before rest : List (List ℕ)) (line word : List ℕ) (x : Option A)
     → mark_words line ≡ Some (key_word key ∷ word ∷ []) → IsStated P (values key (before ++ line ∷ rest)) x
     → IsAlone P word (values key before)
@@ -58,6 +60,7 @@ not_known : {A : Type 0} (P : List ℕ → A → Type 0) (ws : List (List ℕ)) 
 not_known P ws None e h some = absurd (let no : false ≡ true = some in cc)
 not_known P ws (Some v) e h some = subst (λ us. IsStated P us (Some v)) e h
 
+-- where the marks of all lines are known the mark of each is
 known_at : (before rest : List (List ℕ)) (line : List ℕ) → list_all (λ l. are_known (mark_words l)) (before ++ line ∷ rest) ≡ true
     → are_known (mark_words line) ≡ true
 known_at before rest line h =
@@ -65,6 +68,7 @@ known_at before rest line h =
     let parts = and_parts (list_all known before) (list_all known (line ∷ rest)) (sym (list_all-append known before (line ∷ rest)) ∙ h) in
     (and_parts (known line) (list_all known rest) parts.1).0
 
+-- where all lines say a head no line is bad after those before it
 bad_line : (head after : Head) (before rest : List (List ℕ)) (line : List ℕ) (named : HeadCause)
     → StatesHead (before ++ line ∷ rest) head → StatesHead before after → IsBadLine after line named → ⊥
 bad_line head after before rest line cause.Unknown s t bad =

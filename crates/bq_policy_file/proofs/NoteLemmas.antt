@@ -22,10 +22,12 @@ use Rattle.bq_policy_file.proofs.ListedLineLemmas.{bodies_parsed, body_no_mark}
 use Rattle.bq_policy_file.proofs.MarkLemmas.{AreNoMarks}
 use Rattle.bq_policy_file.proofs.ReadBackLemmas.{AreLines}
 
+-- what is put in front of the first part leaves the parts behind as they were
 onto_more : {X : Type 0} (x : X) (ps qs : List (List X)) → 0 < length ps → onto_first x (ps ++ qs) ≡ onto_first x ps ++ qs
 onto_more x [] qs h = absurd (omega arith)
 onto_more x (p ∷ ps) qs h = refl
 
+-- a split gives one part at least
 some_split : {X : Type 0} (p : X → Bool) (xs : List X) → 0 < length (slice_split p xs)
 some_split {X} p [] = omega arith
 some_split {X} p (x ∷ xs) = go (p x) (slice_split p xs)
@@ -47,11 +49,13 @@ split_append p (x ∷ xs) y ys h = go (p x) (split_append p xs y ys h)
     go true e = ap (λ ps. [] ∷ ps) e
     go false e = ap (onto_first x) e ∙ onto_more x (slice_split p xs) (slice_split p ys) (some_split p xs)
 
+-- the words before and after a blank are the words of the whole
 words_append : (xs ys : List ℕ) → words_between_blanks (xs ++ 32 ∷ ys) ≡ words_between_blanks xs ++ words_between_blanks ys
 words_append xs ys =
     ap (filter (λ w. nat_lt 0 (length w))) (split_append is_blank xs 32 ys refl)
     ∙ filter-append (λ w. nat_lt 0 (length w)) (slice_split is_blank xs) (slice_split is_blank ys)
 
+-- blanks have no words
 no_words : (n : ℕ) → words_between_blanks (replicate n 32) ≡ []
 no_words zero = refl
 no_words (suc n) = words-blank is_blank 32 (replicate n 32) refl ∙ no_words n
@@ -72,6 +76,7 @@ before_note (x ∷ xs) ys h =
     ap (λ t. take (cond t (1 + n) 0) (x ∷ (xs ++ 59 ∷ ys))) other ∙ ap (λ k. take k (x ∷ (xs ++ 59 ∷ ys))) one
     ∙ ap (λ bs. x ∷ bs) (before_note xs ys parts.1)
 
+-- a text in which no comment begins stays whole
 no_note : (xs : List ℕ) → list_all is_inner xs ≡ true → before_first is_comment xs ≡ xs
 no_note [] h = refl
 no_note (x ∷ xs) h =
@@ -81,6 +86,7 @@ no_note (x ∷ xs) h =
     let one : 1 + n ≡ suc n = omega arith in
     ap (λ t. take (cond t (1 + n) 0) (x ∷ xs)) other ∙ ap (λ k. take k (x ∷ xs)) one ∙ ap (λ bs. x ∷ bs) (no_note xs parts.1)
 
+-- blanks end no line and begin no comment
 blanks_inner : (n : ℕ) → list_all is_inner (replicate n 32) ≡ true
 blanks_inner zero = refl
 blanks_inner (suc n) = blanks_inner n
@@ -95,6 +101,7 @@ noted_parses body note n h =
     ∙ before_note (body ++ blanks) note (list_all-append is_inner body blanks h (blanks_inner n)) in
     ap (λ bs. line_of_words (words_between_blanks bs)) before ∙ ap line_of_words (words_blanks body n) ∙ ap (λ bs. line_of_words (words_between_blanks bs)) (sym (no_note body h))
 
+-- the byte at a place of a clean text is clean, and the hex of some bytes is:
 index_clean : (t : List ℕ) (k : ℕ) → list_all is_clean t ≡ true → is_clean (slice_index t k) ≡ true
 index_clean [] k h = refl
 index_clean (b ∷ t) zero h = (and_parts (is_clean b) (list_all is_clean t) h).0
@@ -114,6 +121,7 @@ hex_clean (b ∷ bytes) =
 abbrev note_of : ℕ → Insn → List ℕ
 note_of slot i = codes "; " ++ (blanks_to 4 (decimal slot) ++ (decimal slot ++ (codes "  " ++ encode_lower (insn_bytes i))))
 
+-- the comment on an instruction is clean
 note_clean : (slot : ℕ) (i : Insn) → slot < 2 ^ 64 → list_all is_clean (note_of slot i) ≡ true
 note_clean slot i h =
     let blanks = blanks_to 4 (decimal slot) in
@@ -153,9 +161,11 @@ noted_ended slot (i ∷ insns) =
 abbrev HasRoom : ℕ → List Insn → Type 0
 HasRoom slot insns = slot + slot_count insns < 2 ^ 64
 
+-- where some instructions have room, those after the first have it
 later_room : (slot : ℕ) (i : Insn) (insns : List Insn) → HasRoom slot (i ∷ insns) → HasRoom (slot + slots_of i) insns
 later_room slot i insns h = omega (arith, h, slot_count-cons i insns)
 
+-- the lines with comments are clean, are no marks, and say what the lines without comments say:
 notes_clean : (slot : ℕ) (insns : List Insn) → HasRoom slot insns → list_all is_insn insns ≡ true → AllFit insns
     → AreClean (noted_lines slot insns)
 notes_clean slot [] r h k = tt

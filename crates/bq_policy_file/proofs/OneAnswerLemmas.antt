@@ -28,6 +28,7 @@ use Rattle.bq_policy_file.specs.Asm.{IsAssembled, IsNoText, IsFaultyText}
 use Rattle.bq_policy_file.specs.Dis.{IsListed, IsFaultyProgram}
 use Rattle.bq_policy_file.specs.Laws.{OneAssembly, OneListing}
 
+-- a text that is assembled is not refused
 assembled_or_refused : (form : ProgramForm) (text x y : List ℕ) → IsAssembled form text x → IsNoText text y ⊎ IsFaultyText text y → ⊥
 assembled_or_refused form text x y p (inl q) = q.0 p.is_text
 assembled_or_refused form text x y p (inr q) = asm.no_program_is_faulty text p.insns q.1 q.2 p.assembles q.3
@@ -45,6 +46,7 @@ one_spelling : (form : ProgramForm) (insns : List Insn) (a b : List ℕ) → Spe
 one_spelling Program insns a b p q = p ∙ sym q
 one_spelling (Image i) insns a b p q = one_image a b i.version i.hook i.shapes.items (spelling insns) p q
 
+-- a text is refused with one answer, and assembled to one:
 one_text_refusal : (text x y : List ℕ) → IsNoText text x ⊎ IsFaultyText text x → IsNoText text y ⊎ IsFaultyText text y → x ≡ y
 one_text_refusal text x y (inl p) (inl q) = p.1 ∙ sym q.1
 one_text_refusal text x y (inl p) (inr q) = absurd (p.0 q.0)
@@ -68,12 +70,14 @@ one_assembly form text true false x y p q = absurd (assembled_or_refused form te
 one_assembly form text false true x y p q = absurd (assembled_or_refused form text y x q p)
 one_assembly form text false false x y p q = (refl, one_text_refusal text x y p q)
 
+-- hex that is listed is not refused
 listed_or_refused : (text x y : List ℕ) → IsListed text x → (IsNoHex text × (y ≡ refused_line (codes "hex"))) ⊎ IsFaultyProgram text y → ⊥
 listed_or_refused text x y p (inl q) = cc (p.1, q.0.1)
 listed_or_refused text x y p (inr q) =
     let same : q.0 ≡ spelling p.0 = cc (p.1, q.1) in
     lengths.no_program_is_refused p.0 q.2 q.3 p.2 p.3 (subst (λ b. IsDecodeFault b (At q.2 q.3)) same q.4)
 
+-- hex is refused with one answer
 one_hex_refusal : (text x y : List ℕ) → (IsNoHex text × (x ≡ refused_line (codes "hex"))) ⊎ IsFaultyProgram text x
     → (IsNoHex text × (y ≡ refused_line (codes "hex"))) ⊎ IsFaultyProgram text y → x ≡ y
 one_hex_refusal text x y (inl p) (inl q) = p.1 ∙ sym q.1

@@ -46,6 +46,7 @@ apart (Some a) (Some b) same other = other same
 apart (Some a) None same other = absurd other
 apart None y same other = absurd other
 
+-- what was asked for does not differ in any key from a head with which it agrees
 agreed : (given : Head) (hook : Option Hook) (maps : Option (List MapShape)) (format : Option Version) (k : Key)
     → AgreesWithHead given hook maps format → DiffersIn k given hook maps format → ⊥
 agreed given hook maps format key.Hook a d = apart given.hook hook a.hooks d
@@ -87,6 +88,7 @@ none_or_other : (bytes : List ℕ) (given a b : Head) (k : Key)
 none_or_other bytes given a b k h g none d =
     agreed given a.hook (shapes_in_head a) a.format k none.0 (of_other (DiffersIn k given) (lines bytes) b a g.head.states h.head.states d)
 
+-- a text has one bad mark, one faulty line and one first key that differs:
 same_mark : (bytes : List ℕ) (l m : ℕ) (c d : HeadCause) → IsBadAt (lines bytes) l c → IsBadAt (lines bytes) m d
     → fault.Head l c ≡ fault.Head m d
 same_mark bytes l m c d f g = let same = one_bad_line (lines bytes) l m c d f g in λ i. fault.Head (same.0 i) (same.1 i)
@@ -175,6 +177,7 @@ no_bad_program bytes v k shapes program insns slot c is h f =
     let same = load.one_image bytes v h.version k h.hook shapes h.shapes program (spelling insns) is h.image in
     no_program_is_refused insns slot c h.well_formed h.numbers (subst (λ b. IsProgramFault b (At slot c)) same.3 f)
 
+-- an image has one fault of its program, and one first key that differs:
 same_slot : (bytes : List ℕ) (v w : Version) (h k : Hook) (a b : List MapShape) (p q : List ℕ) (s t : ℕ) (c d : DecodeCause)
     → IsImage bytes v h a p → IsImage bytes w k b q → IsProgramFault p (At s c) → IsProgramFault q (At t d)
     → fault.Program s c ≡ fault.Program t d
@@ -273,6 +276,7 @@ hex_states bytes given fault.NoHook x f = inr f
 spelled_bytes : (text image : List ℕ) → SpellsBytes text image → AreBytes image
 spelled_bytes text image spells = (decode_of-ok (digits_in text) image spells).3
 
+-- a text that spells bytes in hex is hex, and spells only those:
 no_hex : (text image : List ℕ) → IsNoHex text → SpellsBytes text image → ⊥
 no_hex text image none spells = cc (none.1, spells)
 
@@ -312,6 +316,7 @@ no_hex_fault bytes given p a fit x h f =
           no_image_fault h.0 given p a (spelled_bytes bytes h.0 h.1) fit x h.2 (subst (λ i. IsImageFault i given a) same image.2)
     ]
 
+-- whatever the kind of a file, it has one fault
 of_kind : (k : FileKind) (bytes : List ℕ) (given : Head) (a b : PolicyFault)
     → AreBytes bytes → a ≢ fault.OutOfMemory → b ≢ fault.OutOfMemory → IsFaultOfKind k bytes given a
     → IsFaultOfKind k bytes given b
@@ -320,6 +325,7 @@ of_kind kind.Image bytes given a b fits x y f g = one_image_fault bytes given a 
 of_kind kind.Hex bytes given a b fits x y f g = one_hex_fault bytes given a b x y f g
 of_kind kind.Text bytes given a b fits x y f g = one_text_fault bytes given a b x y f g
 
+-- whatever the kind of a file, if it is a policy it has no fault
 no_fault : (k : FileKind) (bytes : List ℕ) (given : Head) (p : PolicySource) (a : PolicyFault)
     → AreBytes bytes → AllFit p.insns.items → a ≢ fault.OutOfMemory → IsPolicyOfKind k bytes given p → IsFaultOfKind k bytes given a
     → ⊥

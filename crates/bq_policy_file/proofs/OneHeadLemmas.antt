@@ -27,6 +27,7 @@ one_stated see P one (w ∷ []) (Some a) None h k = absurd k
 one_stated see P one (w ∷ []) (Some a) (Some b) h k = ap (λ v. Some v) (one w a b h k)
 one_stated see P one (w ∷ v ∷ ws) x y h k = absurd h
 
+-- lists of pairs that are equal begin with the same pair, and go on with the same:
 same_pair : (x y : ℕ × ℕ) (xs ys : List (Option (ℕ × ℕ))) → Some x ∷ xs ≡ Some y ∷ ys → x ≡ y
 same_pair x y xs ys h = cc
 

@@ -21,6 +21,7 @@ other_word : (a b : Key) → bytes_eq (key_word a) (key_word b) ≡ false → by
     → ⊥
 other_word a b apart own e = let same = ap (λ w. bytes_eq w (key_word b)) e in cc
 
+-- keys that have the same word are the same
 one_key : (a b : Key) → key_word a ≡ key_word b → a ≡ b
 one_key key.Hook key.Hook e = refl
 one_key key.Hook key.Maps e = absurd (other_word key.Hook key.Maps refl refl e)
@@ -38,6 +39,7 @@ one_stated_key : (a b : Key) (line v w : List ℕ) → mark_words line ≡ Some 
     → a ≡ b
 one_stated_key a b line v w p q = one_key a b (cc)
 
+-- a mark of a key and one word is known
 known_key : (k : Key) (word : List ℕ) → are_known (Some (key_word k ∷ word ∷ [])) ≡ true
 known_key key.Hook word = refl
 known_key key.Maps word = refl
@@ -47,6 +49,7 @@ known_key key.Format word = refl
 not_unknown : (k : Key) (line word : List ℕ) → mark_words line ≡ Some (key_word k ∷ word ∷ []) → are_known (mark_words line) ≡ false → ⊥
 not_unknown k line word is unknown = let known : are_known (mark_words line) ≡ true = ap are_known is ∙ known_key k word in cc
 
+-- shapes are named exactly where maps are
 some_in : (maps : Option (Vec MapShape Global)) → is_some (shapes_in maps) ≡ is_some maps
 some_in None = refl
 some_in (Some maps) = refl

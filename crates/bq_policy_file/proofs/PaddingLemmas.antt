@@ -7,6 +7,7 @@ use Rattle.std.proofs.lemmas.Bool.{and_parts, ne_eqb}
 use lib.Utf8.{encode}
 use Rattle.bq_policy_file.specs.Listed.{blanks_to, is_ascii, noted}
 
+-- a byte of ASCII begins a character
 starts : (b : ℕ) → is_ascii b ≡ true → is_char_start b ≡ true
 starts b h = rw h refl
 

@@ -39,6 +39,7 @@ places_after : (n : ℕ) (ls : List Line) → places_from 0 (replicate n Blank +
 places_after zero ls = refl
 places_after (suc n) ls = places_after n ls
 
+-- lines assemble to the same instructions after blank lines
 assembles_behind : (places : List (List ℕ × ℕ)) (n : ℕ) (ls : List Line) (insns : List Insn)
     → AssemblesFrom places 0 ls insns → AssemblesFrom places 0 (replicate n Blank ++ ls) insns
 assembles_behind places zero ls insns h = h
@@ -65,6 +66,7 @@ assembles_after text other n insns e a =
 abbrev pub text_of : PolicySource → List (List ℕ) → List ℕ
 text_of p ls = ended (mark_lines p.form.hook p.form.shapes.items p.form.version ++ ls)
 
+-- the lines of a policy's text are its marks, and then these lines
 text_lines : (p : PolicySource) (ls : List (List ℕ)) → AreClean ls
     → lines (text_of p ls) ≡ mark_lines p.form.hook p.form.shapes.items p.form.version ++ ls
 text_lines p ls h =
@@ -91,6 +93,7 @@ map_shapes : (p : PolicySource) (items : List MapShape) → p.form.shapes.items 
 map_shapes p [] e = e
 map_shapes p (first ∷ rest) e = refl
 
+-- a version is what its mark says, or else the first
 version_stated : (v : Version) → v ≡ unwrap_or (format_stated v) First
 version_stated First = refl
 version_stated Second = refl
@@ -104,6 +107,7 @@ agrees_nothing h hook maps format a = record {
   formats = rw a.format tt;
 }
 
+-- where nothing is asked for, what the marks of a policy say is its hook, its maps and its version
 combine_to_policy : (p : PolicySource) (h : Head) → AsksNothing h
     → CombineTo h (stated_head p) p.form.hook p.form.shapes.items p.form.version
 combine_to_policy p h a = record {

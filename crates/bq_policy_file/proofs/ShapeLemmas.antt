@@ -14,11 +14,13 @@ use Rattle.bq_words.specs.Words.{parts}
 use Rattle.bq_policy_file.specs.ShapesText.{NamesShapes, shape_number, numbers_in, numbers_of, both_numbers, pair_of}
 use Rattle.bq_policy_file.specs.MarkLines.{shape_text, more_maps}
 
+-- a digit is one of the bytes from 48 to 57
 digit_below : (b : ℕ) → is_digit b ≡ true → (48 ≤ b) × (b ≤ 57)
 digit_below b h =
     let both = and_parts (nat_le 48 b) (nat_le b 57) h in
     (leb-true 48 b both.0, leb-true b 57 both.1)
 
+-- a text of digits does not have a byte that is no digit
 no_byte : (mark : ℕ) → ((b : ℕ) → is_digit b ≡ true → (b == mark) ≡ false) → (bs : List ℕ) → list_all is_digit bs ≡ true
     → AllByRecursion (λ b. (b == mark) ≡ false) bs
 no_byte mark other [] h = tt
@@ -26,6 +28,7 @@ no_byte mark other (b ∷ bs) h =
     let parts = and_parts (is_digit b) (list_all is_digit bs) h in
     (other b parts.0, no_byte mark other bs parts.1)
 
+-- a digit is no comma, and no colon:
 no_comma : (b : ℕ) → is_digit b ≡ true → (b == 44) ≡ false
 no_comma b h = let low = (digit_below b h).0 in ne_eqb b 44 (λ e. omega arith)
 
@@ -57,6 +60,7 @@ shape_again s =
     ∙ ap (λ ps. decimal s.value_size ∷ ps) (slice_split_none colon (decimal s.entries) second))
     ∙ (λ i. both_numbers (number_again s.value_size size i) (number_again s.entries entries i))
 
+-- the text of a shape has no comma
 no_comma_in : (s : MapShape) → AllByRecursion (λ b. (b == 44) ≡ false) (shape_text s)
 no_comma_in s = joined (decimal s.value_size) (58 ∷ decimal s.entries)
     (no_byte 44 no_comma (decimal s.value_size) (decimal_digits s.value_size (omega (arith, s.greatest_size))))
@@ -82,6 +86,7 @@ parts_are first (next ∷ rest) =
     (All-from_recursion (λ b. (b == 44) ≡ false) (shape_text first) (no_comma_in first)) refl
     ∙ ap (λ ps. shape_text first ∷ ps) (parts_are next rest)
 
+-- the numbers of shapes are read again from their texts
 all_again : (shapes : List MapShape) → map numbers_in (map shape_text shapes) ≡ map numbers_of shapes
 all_again [] = refl
 all_again (s ∷ shapes) = λ i. shape_again s i ∷ all_again shapes i

@@ -124,6 +124,7 @@ reads_charged_by processor l now a at =
       | Some task ↦ reads_task (run_for (now - l.since)) (λ c. refl) processor task l.size l.run a a (reads_same processor a l at)
     ]
 
+-- to count the time of the task that runs changes no processor
 charged_by-processors : (l : ProcessorState) (now : ℕ) (a : Accounts) → (runner_charged l now a).by_processor ≡ a.by_processor
 charged_by-processors l now a =
     elim l.run
@@ -174,6 +175,7 @@ same_run None (Some n) h = cc
 same_run (Some m) None h = cc
 same_run (Some m) (Some n) h = ap (λ (k : ℕ). Some k) (eqb-true m n h)
 
+-- what runs there is read, whether the same task was to run or another took over
 switched_by_test : (b : Bool) (processor : ℕ) (run : Option ℕ) (a over : Accounts) (l : ProcessorState)
     → is_same l.run run ≡ b → slice_get a.by_processor processor ≡ Some l → Reads processor run l.size a over
     → Reads processor run l.size a (if b then a else over)

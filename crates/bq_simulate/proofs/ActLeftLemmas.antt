@@ -81,6 +81,7 @@ ahead-some kinds c h =
     either true b h = refl
     either false b h = h
 
+-- a task goes through as many actions as its kind has
 count-is : (kinds : List TaskKind) (c : TaskProgress) → action_count kinds c ≡ length (kind_actions kinds c.kind)
 count-is kinds c =
     elim (slice_get kinds c.kind) as (λ (o : Option TaskKind).
@@ -103,6 +104,7 @@ advanced-by_test kinds c false test h =
     let e : c.action + 1 ≡ suc c.action = omega arith in
     ap (λ n. steps_until kinds 0 (drop n xs ++ xs)) e
 
+-- a task that goes on has ahead of it the actions after this one, and then one more round
 advanced-ahead : (kinds : List TaskKind) (c : TaskProgress) → list_any takes_time (kind_actions kinds c.kind) ≡ true
     → steps_ahead kinds (advanced_in kinds c)
     ≡ steps_until kinds 0 (drop (suc c.action) (kind_actions kinds c.kind) ++ kind_actions kinds c.kind)
@@ -123,6 +125,7 @@ woken-by_test kinds kind c true test h next low =
     omega (arith, low, ahead-is kinds c (Wake kind) next, ahead-is kinds (record c { woken = c.woken + 1 }) (Wake kind) next)
 woken-by_test kinds kind c false test h next low = omega (arith, low, ahead-is kinds c (Wake kind) next, advanced-ahead kinds c h)
 
+-- a wake that comes to one more task has one step less ahead of it
 woken-ahead : (kinds : List TaskKind) (kind : ℕ) (c : TaskProgress)
     → list_any takes_time (kind_actions kinds c.kind) ≡ true → next_action kinds c ≡ Some (Wake kind)
     → c.woken < kind_count kinds kind
@@ -131,6 +134,7 @@ woken-ahead kinds kind c h next low = woken-by_test kinds kind c (nat_lt (c.woke
 
 -- What is left
 
+-- a task that can run, and whose phase is not done, takes no step at this instant
 runs-left : (s : TaskState) (rings : Bool) (steps : ℕ) → s ≡ Runnable → left_in s rings false steps ≡ 0
 runs-left s rings steps is = ap (λ (x : TaskState). left_in x rings false steps) is
 

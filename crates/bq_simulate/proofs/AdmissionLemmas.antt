@@ -46,6 +46,7 @@ AreAdmitted-more processors number kind task (suc count) next xs ys at (some, mo
   AreAdmitted-more processors number kind (task + 1) count next more ys (omega (arith, at)) rest one,
 )
 
+-- one kind and some others have the tasks of that kind and those of the others
 tasks_in-cons : (kind : TaskKind) (kinds : List TaskKind) → tasks_in (kind ∷ kinds) ≡ kind.count + tasks_in kinds
 tasks_in-cons kind kinds =
     let count : TaskKind → ℕ = λ k. k.count in

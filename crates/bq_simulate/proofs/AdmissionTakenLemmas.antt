@@ -60,6 +60,7 @@ numbers_of kind h =
       greatest = leb-true kind.slice GREATEST_SLICE to_three.1;
     }
 
+-- two numbers of which neither is 0 have a product that is not 0
 product : (a b : ℕ) → 1 ≤ a → 1 ≤ b → a * b ≡ 0 → ⊥
 product a b h k z = omega (arith, mul-pos {m = a} {n = b} h k, z)
 
@@ -71,6 +72,7 @@ mask_has_more mask home j h z =
     let some : 1 ≤ x % 2 ^ (j + 1) = omega (arith, mod-pow-add x j 1, one) in
     product (x % 2 ^ (j + 1)) (2 ^ home) some (pow_pos home) (omega (arith, mod-pow-add mask (j + 1) home, z))
 
+-- a mask that allows one of this many processors has one of this many lowest bits
 mask_has : (mask home count : ℕ) → home < count → allows mask home ≡ true → mask % 2 ^ count ≡ 0 → ⊥
 mask_has mask home count low h z =
     let e : count ≡ (count - home - 1 + 1) + home = omega arith in

@@ -44,7 +44,7 @@ few_come_at_once = record {
 abbrev pub IsCounted : Workload → ℕ → ℕ → Accounts → Type 0
 IsCounted w came now a = came + steps_left_at w.tasks.items now a ≤ (now + 1) * (steps_at_once w - 1)
 
--- some are counted
+-- at least one thing is counted for an instant
 some-at-once : (w : Workload) → 1 ≤ steps_at_once w
 some-at-once w = omega (arith, processors_in-some w.machine.size)
 
@@ -54,6 +54,7 @@ pub none-came : (w : Workload) (d : Driver) (b : Book) → first_flaw w ≡ None
     → IsCounted w 0 0 b.accounts
 none-came w d b sound h many = omega (arith, few-left w 0 d b sound h many)
 
+-- what has come, and what comes at a later instant, is counted for all instants until that one
 later-counted : (came left next now more each : ℕ) → came + left ≤ (now + 1) * each → next ≤ each
     → came + next ≤ (now + more + 1 + 1) * each
 later-counted came left next now more each h few = omega (arith, h, few)
@@ -83,6 +84,7 @@ pub met-counted : (w : Workload) (came now : ℕ) (d e : Driver) (b c : Book) (d
 met-counted w came now d e b c due deeds reported sound until next meet leads h counted =
     omega (arith, counted, meet-takes w d e b c due now deeds reported sound until next meet leads h)
 
+-- where one more is counted for each instant, fewer things have come than are counted until a later one
 below : (came left now more each : ℕ) → came + left ≤ (now + 1) * each → came < (now + more + 1) * (each + 1)
 below came left now more each h = omega (arith, h)
 
@@ -132,6 +134,7 @@ bound-passed w came now most a until all is counted = omega (arith, all, is, cou
 
 -- A whole simulation
 
+-- fewer things come, with those that came before, than are counted for all instants until the end
 steps_counted : (w : Workload) (d e : Driver) (b c : Book) (steps : List MetDue) (reported : Reported) (now came : ℕ)
     → first_flaw w ≡ None → AreInOrder w.tasks.items w.machine.seed (periods_of w.machine) b steps
     → DeedsLeadIn w d b (deeds_of steps) reported e c → now ≤ w.machine.duration → IsKept w.tasks.items now d b

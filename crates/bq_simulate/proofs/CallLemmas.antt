@@ -32,6 +32,7 @@ any_periods = record { end = 0; tick = 0; balance = 0; migration_cost = 0 }
 for_memory : (d : Driver) (event : Event) → IsReadable d.now (reading_of_event event) → refusal (world_of d) event ≡ None → FailsForMemory d event
 for_memory d event readable taken = λ why fails. only_memory_is_wanted d event why readable taken fails
 
+-- the wake of a task that cannot run fails only if memory runs out
 wake_fails : (d : Driver) (a : Accounts) (from task now : ℕ) (c : TaskProgress) (why : DriveFault)
     → IsDriverReady d a now → from < count_in (world_of d) → slice_get a.by_task task ≡ Some c → can_run c.task_state ≡ false
     → IsWakeFault d from task now why
@@ -44,6 +45,7 @@ wake_fails d a from task now c why ready low at sleeps (inr (begun, reported, mi
     let end = begin.leaves does.happens.moves.step.calls begun (world_of mid) (step_of d (BeginWake from task) begun reported mid does) in
     for_memory mid (EndWake from now) (subst (λ n. IsReadable n (Some now)) (sym does.rises) ready.reading) end.taken why fails
 
+-- where a woken task was placed, only a lack of memory keeps it from being taken in
 drain_fails : (d e : Driver) (a : Accounts) (from task to now : ℕ) (c : TaskProgress) (reported : Reported)
     → IsDriverReady d a now → from < count_in (world_of d) → slice_get a.by_task task ≡ Some c → can_run c.task_state ≡ false
     → PlacesWoken d from task now to reported e

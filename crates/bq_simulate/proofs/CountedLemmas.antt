@@ -70,7 +70,7 @@ front-most (suc n) m rest f (c ∷ cs) long h last =
           (omega (arith, last, same)),
     )
 
--- a task of one of these kinds has twice so much at most as that kind says
+-- a task of one of these kinds has at most twice what is counted for that kind
 pub record IsMost (kinds : List TaskKind) (f : ℕ → TaskProgress → ℕ) (g : TaskKind → ℕ) (task : ℕ) (c : TaskProgress) : Type 0 where
   pub number : ℕ
   pub of : IsTaskOfKind kinds task number
@@ -81,6 +81,7 @@ first-behind : (kind : TaskKind) (kinds : List TaskKind) (number : ℕ)
     → first_task_of (kind ∷ kinds) (suc number) ≡ kind.count + first_task_of kinds number
 first-behind kind kinds number = sum_by-cons (λ (k : TaskKind). k.count) kind (take number kinds)
 
+-- a task of the first kind has at most twice what is counted for that kind
 first-is : (kind : TaskKind) (kinds : List TaskKind) (f : ℕ → TaskProgress → ℕ) (g : TaskKind → ℕ)
     (task : ℕ) (c : TaskProgress)
     → task < kind.count → IsMost (kind ∷ kinds) f g task c → f task c ≤ g kind * 2
@@ -90,6 +91,7 @@ first-is kind kinds f g task c low h = go h.number h.of h.most
     go zero of most = subst (λ (k : TaskKind). f task c ≤ g k * 2) (sym (same_Some kind of.kind of.there)) most
     go (suc number) of most = absurd (omega (arith, of.from, low, first-behind kind kinds number))
 
+-- a task after those of the first kind keeps its bound where only the other kinds are counted
 behind-is : (kind : TaskKind) (kinds : List TaskKind) (f : ℕ → TaskProgress → ℕ) (g : TaskKind → ℕ)
     (task : ℕ) (c : TaskProgress)
     → IsMost (kind ∷ kinds) f g (kind.count + task) c → IsMost kinds (λ i. f (kind.count + i)) g task c
@@ -111,6 +113,7 @@ behind-is kind kinds f g task c h = go h.number h.of h.most
       most = most;
     }
 
+-- all tasks together have at most twice what is counted for the tasks of their kinds
 by-kind : (f : ℕ → TaskProgress → ℕ) (g : TaskKind → ℕ) (kinds : List TaskKind) (cs : List TaskProgress)
     → length cs ≡ tasks_in kinds → ((task : ℕ) (c : TaskProgress) → slice_get cs task ≡ Some c → IsMost kinds f g task c)
     → in_all f cs ≤ sum_by (λ (kind : TaskKind). kind.count * g kind) kinds * 2
@@ -134,6 +137,7 @@ by-kind f g (kind ∷ kinds) cs long h =
 
 -- One task and one processor
 
+-- a task takes at most two steps for its timer, and two for each step before one that takes time
 in-most : (s : TaskState) (rings done : Bool) (steps : ℕ) → left_in s rings done steps ≤ 2 + steps * 2
 in-most Asleep true done steps = omega arith
 in-most Asleep false done steps = omega arith
@@ -156,6 +160,7 @@ task-most w now ls task c sound of =
     (steps-round kinds c.woken c.action (kind_actions kinds c.kind) (ap (list_any takes_time) actions ∙ good.time)) in
     omega (arith, round, in-most c.task_state (c.timer == now) (nat_le c.due (c.got + uncounted now ls task)) (steps_ahead kinds c))
 
+-- a processor takes at most two steps at one instant
 processor-most : (now : ℕ) (l : ProcessorState) → left_of_processor now l ≤ 2
 processor-most now l = go (is_same l.tick (Some now)) (is_same l.look (Some now))
   where

@@ -1,4 +1,4 @@
--- Deeds after deeds.
+-- Deeds by which a simulation goes on: one after another, of each kind, and none.
 use Rattle.std.proofs.Common.{◌≡◌, ℕ, true, List, [], ◌∷◌, ◌++◌, length, length-append, Option, Some, refl, sym, ◌∙◌, ap, subst, append_assoc, append-nil, arith}
 use Rattle.std.specs.Option.{option_map_or}
 use Rattle.std.specs.Prelude.{slice_get, slice_set}
@@ -28,7 +28,7 @@ use Rattle.bq_simulate.specs.Steps.{AreJustEvents, AreWake, FollowsAction, IsAct
 use Rattle.bq_simulate.proofs.KindLemmas.{firsts-pushed}
 use Rattle.bq_simulate.proofs.StreamLemmas.{gives_if_asked, opened-streams}
 
--- some, and then others
+-- where some deeds lead to a state, and others lead on from it, all of them lead from the first state to the last
 pub DeedsLead-append : (kinds : List TaskKind) (seed : ℕ) (periods : Periods) (d m e : Driver) (a b c : Book)
     (xs ys : List Deed) (reported more : Reported)
     → DeedsLead kinds seed periods d a xs reported m b → DeedsLead kinds seed periods m b ys more e c
@@ -129,7 +129,7 @@ GoesByDeeds-join takes kinds A B C x y z s t u drawn first second are =
       are = are;
     }
 
--- a simulation goes on, and then on
+-- a simulation that goes on by some deeds, and then by others, goes on by all of them
 pub GoesOnBy-join : {S : Type 0} (takes : S → ℕ → TraceEvent → S → Type 0) (kinds : List TaskKind) (A B C : List Deed → Type 0)
     → ((xs ys : List Deed) → A xs → B ys → C (xs ++ ys)) → (x y z : S) (s t u : Simulation) → GoesOnBy takes kinds A x s y t
     → GoesOnBy takes kinds B y t z u
@@ -139,7 +139,7 @@ GoesOnBy-join takes kinds A B C join x y z s t u goes more drawn had firsts =
     let second = more first.after first.streams first.firsts in
     GoesByDeeds-join takes kinds A B C x y z s t u drawn first second (join first.deeds second.deeds first.are second.are)
 
--- what holds of the deeds by which it goes on holds in other words
+-- from what its streams have given, a simulation that goes on by deeds of one form does by any form that this implies
 pub GoesByDeeds-weaker : {S : Type 0} (takes : S → ℕ → TraceEvent → S → Type 0) (kinds : List TaskKind)
     (A B : List Deed → Type 0)
     → ((xs : List Deed) → A xs → B xs) → (x y : S) (s : Simulation) (drawn : List ℕ) (t : Simulation)
@@ -158,7 +158,7 @@ GoesByDeeds-weaker takes kinds A B weaker x y s drawn t h = record {
   are = weaker h.deeds h.are;
 }
 
--- what holds of its deeds holds in other words
+-- a simulation that goes on by deeds of one form goes on by deeds of any form that this implies
 pub GoesOnBy-weaker : {S : Type 0} (takes : S → ℕ → TraceEvent → S → Type 0) (kinds : List TaskKind) (A B : List Deed → Type 0)
     → ((xs : List Deed) → A xs → B xs) → (x y : S) (s t : Simulation) → GoesOnBy takes kinds A x s y t
     → GoesOnBy takes kinds B x s y t
@@ -196,6 +196,7 @@ firsts-stay kinds s t stays had number first there = had number first (ap (λ v.
 begun-same : (s t : Simulation) → t.firsts ≡ s.firsts → KeepsAsManyFirsts s t
 begun-same s t same = omega (arith, ap (λ v. length v.items) same)
 
+-- a simulation that stays as it was has no fewer first tasks of kinds
 begun-stay : (s t : Simulation) → SimulationStays s t → KeepsAsManyFirsts s t
 begun-stay s t stays = begun-same s t stays.firsts
 

@@ -1,4 +1,4 @@
--- Events after events.
+-- Events that are driven one after another, and the two events by which a task is woken and placed.
 use Rattle.std.proofs.Common.{◌≡◌, ℕ, List, [], ◌∷◌, ◌++◌, Some, refl, sym, ◌∙◌, ap, subst, append_assoc, append-nil}
 use Rattle.bq_parts.specs.declared.event.Event.{Event}
 use Rattle.bq_parts.specs.declared.event.Event.TheVariants.{BeginWake, EndWake}
@@ -35,7 +35,7 @@ EventsAreDriven-one takes old new d e x reply gets = record {
   holds = (reply, e, gets.reported, [], gets.holds, (refl, refl), sym (append-nil gets.reported));
 }
 
--- some, and then others
+-- where some events are driven, and others after them, all are driven, and all that they report is taken
 pub EventsAreDriven-join : {S : Type 0} (takes : S → ℕ → TraceEvent → S → Type 0) (a b c : S) (d m e : Driver) (xs ys : List Event)
     → EventsAreDriven takes a d xs b m → EventsAreDriven takes b m ys c e → EventsAreDriven takes a d (xs ++ ys) c e
 EventsAreDriven-join takes a b c d m e xs ys first second = record {

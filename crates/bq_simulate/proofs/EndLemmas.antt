@@ -1,4 +1,4 @@
--- A phase that ends next while a simulation goes well has got just what it takes, and its task finds all that its next action takes.
+-- A phase that ends next while a simulation goes well has got all that it takes, and its task finds all that its next action takes.
 use Rattle.std.proofs.Common.{◌≡◌, ℕ, ◌+◌, ◌-◌, ◌<◌, ◌^◌, inl, inr, true, false, List, [], ◌∷◌, length, Option, Some, None, refl, sym, subst, ap, ◌∙◌, arith}
 use Rattle.std.specs.Prelude.{◌⊎◌, option_and_then, slice_get}
 use Rattle.std.specs.Option.{option_map_or}
@@ -41,7 +41,7 @@ use Rattle.bq_simulate.proofs.TimeLemmas.{until_is}
 
 -- The end of a phase
 
--- a phase ends at a processor just now: the task that runs there has got just what it takes, once its time is counted
+-- a phase ends at a processor now: the task that runs there has got exactly what it takes, once its time is counted
 pub record EndsNow (now processor : ℕ) (a : Accounts) : Type 0 where
   pub state : ProcessorState
   pub at : slice_get a.by_processor processor ≡ Some state
@@ -113,6 +113,7 @@ no_stray_end w now processor s h next astray =
 
 -- The task whose phase has ended
 
+-- there are as many streams as counts of the lengths that they have given
 streams_count : (seed first : ℕ) (drawn : List ℕ) → length (streams_after seed first drawn) ≡ length drawn
 streams_count seed first [] = refl
 streams_count seed first (n ∷ ns) = omega (arith, streams_count seed (first + 1) ns)

@@ -22,6 +22,7 @@ use Rattle.bq_simulate.specs.Texts.{ByHook}
 abbrev InstallsImages : ByHook → List Deed → Type 0
 InstallsImages images deeds = AllByRecursion (IsFromImages images) (events_of deeds)
 
+-- deeds keep to the images where each part of them does, and where each of their events does, by cases:
 joined : (images : ByHook) (xs ys : List Deed) → InstallsImages images xs → InstallsImages images ys → InstallsImages images (xs ++ ys)
 joined images [] ys h k = k
 joined images (Happens event reply ∷ xs) ys h k = (h.0, joined images xs ys h.1 k)
@@ -45,6 +46,7 @@ installs : (images : ByHook) (generation : ℕ) (policy : Accepted) (processors 
 installs images generation policy [] h = tt
 installs images generation policy (processor ∷ processors) h = (h, installs images generation policy processors h)
 
+-- policies of images that are installed one after another are those of the images
 installed : (images : ByHook) (processors : ℕ) (policies : List Accepted) (deeds : List Deed)
     → AreOfImages images policies → AreInstalled processors policies deeds → InstallsImages images deeds
 installed images processors [] deeds h is = same images is tt
@@ -54,6 +56,7 @@ installed images processors (policy ∷ policies) deeds h (some, more, is, (gene
 
 -- whatever else is done installs nothing
 
+-- admissions install nothing, of the tasks of one kind or of all kinds:
 admitted : (images : ByHook) (processors number : ℕ) (kind : TaskKind) (task count : ℕ) (deeds : List Deed)
     → AreAdmitted processors number kind task count deeds → InstallsImages images deeds
 admitted images processors number kind task zero deeds is = same images is tt
@@ -67,6 +70,7 @@ all_admitted images processors number task (kind ∷ kinds) deeds (some, more, i
     parts images some more is (admitted images processors number kind task kind.count some one)
     (all_admitted images processors (number + 1) (task + kind.count) kinds more rest)
 
+-- a wake, a block and what follows an action install nothing:
 wakes : (images : ByHook) (from task now : ℕ) (deeds : List Deed) → AreWake from task now deeds → InstallsImages images deeds
 wakes images from task now deeds (begun, placed, drained, to, at, is) = same images is (tt, (tt, (tt, tt)))
 
@@ -82,6 +86,7 @@ follows images (Some (Wake kind)) (Some task) processor now deeds (inr (more, is
 follows images (Some (Wake kind)) None processor now deeds is = absurd is
 follows images action aim processor now deeds is = blocks images processor now deeds is
 
+-- the ticks of some processors, and the pull of one, install nothing:
 ticks : (images : ByHook) (now : ℕ) (processors : List ℕ)
     → AllByRecursion (IsFromImages images) (map (λ processor. Tick processor now) processors)
 ticks images now [] = tt
@@ -91,6 +96,7 @@ pulls : (images : ByHook) (processor now : ℕ) (source : Option ℕ) → AllByR
 pulls images processor now None = tt
 pulls images processor now (Some from) = (tt, tt)
 
+-- what is done when a thing comes due installs nothing, and so does all that is done for several:
 meets : (images : ByHook) (due : Due) (now : ℕ) (deeds : List Deed) → DeedsMeet due now deeds → InstallsImages images deeds
 meets images (due.End processor) now deeds (task, action, aim, more, is, rest) =
     same images is (follows images action aim processor now more rest)
@@ -104,6 +110,7 @@ all_met images [] = tt
 all_met images (step ∷ steps) =
     joined images step.deeds (deeds_of steps) (meets images step.due step.at step.deeds step.meet) (all_met images steps)
 
+-- a simulation that proceeds with policies of images installs only those
 proceeds : (images : ByHook) (policies : List Accepted) (processors : ℕ) (kinds : List TaskKind) (seed : ℕ)
     (periods : Periods) (most end : ℕ) (b : Book) (deeds : List Deed)
     → AreOfImages images policies → Proceeds policies processors kinds seed periods most end b deeds

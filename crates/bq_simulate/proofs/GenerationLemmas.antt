@@ -26,11 +26,13 @@ use Rattle.bq_simulate.proofs.MirrorLemmas.{at_set_else}
 abbrev generation_at : World → ℕ → Hook → ℕ
 generation_at w processor hook = (at_hook hook (processor_at w processor).hooks).generation
 
+-- at each hook of a new processor the generation is 0
 nothing_stands : (hook : Hook) → (at_hook hook new_processor.hooks).generation ≡ 0
 nothing_stands Place = refl
 nothing_stands Preempt = refl
 nothing_stands Pull = refl
 
+-- in a new world each generation at a hook was drawn
 opened : (count : ℕ) → WereDrawn (opening_world count)
 opened count processor hook = omega (
   arith,
@@ -38,6 +40,7 @@ opened count processor hook = omega (
   nothing_stands hook,
 )
 
+-- answers that are equal say the same number that was drawn
 number_drawn : (m n : ℕ) → Drawn m ≡ Drawn n → m ≡ n
 number_drawn m n h = cc
 
@@ -71,6 +74,7 @@ attached_low most Pull Place ps new low h = h Place
 attached_low most Pull Preempt ps new low h = h Preempt
 attached_low most Pull Pull ps new low h = low
 
+-- a generation that is installed at a processor stays newer than those at the processors after it, and none is drawn
 installed : (d : Discipline) (w v : World) (calls : List CounterCall) (r : Reply) (processor generation : ℕ)
     (hook : Hook) (policy : Option Accepted)
     → IsNewerFrom processor generation w → WereDrawn w

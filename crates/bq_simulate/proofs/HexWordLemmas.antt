@@ -6,9 +6,11 @@ use Rattle.hex.specs.Hex.{IsBytes, encode_with, encode_lower, lower_digits, hex_
 use Rattle.hex.proofs.HexLemmas.{IsDigits-lower_digits, length-encode_with}
 use Rattle.bq_simulate.proofs.PlainWordLemmas.{is_plain, IsPlain}
 
+-- a digit of hex is a plain byte
 digit_plain : (c d : ℕ) → hex_digit_value c ≡ Some d → is_plain c ≡ true
 digit_plain c d h = grind (arith, nat_tests)
 
+-- a digit of hex is not the `n` with which `none` begins
 not_n : (c d : ℕ) → hex_digit_value c ≡ Some d → eqb c 110 ≡ false
 not_n c d h = grind (arith, nat_tests)
 
@@ -16,6 +18,7 @@ not_n c d h = grind (arith, nat_tests)
 table_plain : (d : ℕ) → d < 16 → is_plain (slice_index lower_digits d) ≡ true
 table_plain d h = digit_plain (slice_index lower_digits d) d (IsDigits-lower_digits d h)
 
+-- each byte of the hex of some bytes is a plain byte
 hex_plain : (bytes : List ℕ) → IsBytes bytes → list_all is_plain (encode_lower bytes) ≡ true
 unfolding encode_with
 hex_plain [] h = refl

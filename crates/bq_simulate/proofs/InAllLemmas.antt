@@ -12,7 +12,7 @@ use Rattle.bq_simulate.proofs.AccountLemmas.{unchanged}
 
 -- Over processors, or what else stands in a list
 
--- one is written
+-- a sum over a list in which one item is written differs by as much as that item
 sum-set : {A : Type 0} (g : A → ℕ) (xs : List A) (n : ℕ) (x y : A)
     → slice_get xs n ≡ Some x → sum_by g (slice_set xs n y) + g x ≡ sum_by g xs + g y
 sum-set {A} g [] n x y at = absurd (none-some x at)
@@ -20,14 +20,14 @@ sum-set {A} g (z ∷ zs) zero x y at =
     let is : g z ≡ g x = ap g (same_Some z x at) in omega (arith, sum_by-cons g y zs, sum_by-cons g z zs, is)
 sum-set {A} g (z ∷ zs) (suc n) x y at = omega (arith, sum_by-cons g z (slice_set zs n y), sum_by-cons g z zs, sum-set g zs n x y at)
 
--- one has changed
+-- a sum over a list in which one item has changed differs by as much as that item
 pub sum-changed : {A : Type 0} (g : A → ℕ) (f : A → A) (xs : List A) (n : ℕ) (x : A)
     → slice_get xs n ≡ Some x → sum_by g (changed_at f xs n) + g x ≡ sum_by g xs + g (f x)
 sum-changed {A} g f xs n x at =
     let is : changed_at f xs n ≡ slice_set xs n (f x) = ap (λ (o : Option A). option_map_or (λ (y : A). slice_set xs n (f y)) o xs) at in
     subst (λ (ys : List A). sum_by g ys + g x ≡ sum_by g xs + g (f x)) (sym is) (sum-set g xs n x (f x) at)
 
--- to no more
+-- a sum over a list is no more where one item has changed to no more
 pub sum-no_more : {A : Type 0} (g : A → ℕ) (f : A → A) (xs : List A) (n : ℕ)
     → ((x : A) → slice_get xs n ≡ Some x → g (f x) ≤ g x) → sum_by g (changed_at f xs n) ≤ sum_by g xs
 sum-no_more {A} g f xs n less = elim (some_or_none (slice_get xs n)) [
@@ -35,7 +35,7 @@ sum-no_more {A} g f xs n less = elim (some_or_none (slice_get xs n)) [
   | inr (x, at) ↦ omega (arith, sum-changed g f xs n x at, less x at)
 ]
 
--- each is at most so much
+-- a sum of items of which each is at most a number is at most that number, once for each item
 pub sum-most : {A : Type 0} (g : A → ℕ) (m : ℕ) (xs : List A)
     → ((n : ℕ) (x : A) → slice_get xs n ≡ Some x → g x ≤ m) → sum_by g xs ≤ length xs * m
 sum-most {A} g m [] h = omega arith
@@ -43,7 +43,7 @@ sum-most {A} g m (x ∷ xs) h = omega (arith, sum_by-cons g x xs, h 0 x refl, su
 
 -- Over tasks by their numbers
 
--- of each no more
+-- a sum over all tasks is no more where each of its terms is no more
 pub in_all-no_more : (f g : ℕ → TaskProgress → ℕ) (xs ys : List TaskProgress)
     → length xs ≡ length ys → ((n : ℕ) (x y : TaskProgress) → slice_get xs n ≡ Some x → slice_get ys n ≡ Some y → f n x ≤ g n y)
     → in_all f xs ≤ in_all g ys

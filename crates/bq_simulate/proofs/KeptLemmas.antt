@@ -58,12 +58,14 @@ AreBy now (Misses task ∷ deeds) = AreBy now deeds
 AreBy now (Beats processor at ∷ deeds) = AreBy now deeds
 AreBy now (Looks processor at source ∷ deeds) = AreBy now deeds
 
+-- one event that is read by then is such a list of deeds, and so is the empty list:
 one_by : (now : ℕ) (event : Event) (deeds : List Deed) → IsReadBy now (reading_of_event event) → AreJustEvents (event ∷ []) deeds → AreBy now deeds
 one_by now event deeds read (reply, more, is, none) = subst (λ l. AreBy now l) (sym is) (read, subst (λ l. AreBy now l) (sym none) tt)
 
 none_by : (now : ℕ) (deeds : List Deed) → deeds ≡ [] → AreBy now deeds
 none_by now deeds none = subst (λ l. AreBy now l) (sym none) tt
 
+-- the deeds of a wake at that instant, those that follow an action and those of a pull are such a list:
 wake_by : (now from task : ℕ) (deeds : List Deed) → AreWake from task now deeds → AreBy now deeds
 wake_by now from task deeds (begun, placed, drained, to, at, is) =
     let same : now ≤ now = omega arith in
@@ -86,6 +88,7 @@ pulls_by : (source : Option ℕ) (processor now : ℕ) (deeds : List Deed) → A
 pulls_by None processor now deeds none = none_by now deeds none
 pulls_by (Some from) processor now deeds just = one_by now (Pull processor from now) deeds (omega arith) just
 
+-- the deeds that meet what comes due at that instant are such a list
 met_by : (due : Due) (now : ℕ) (deeds : List Deed) → DeedsMeet due now deeds → AreBy now deeds
 met_by (due.End processor) now deeds (task, action, aim, more, is, follow) =
     subst (λ l. AreBy now l) (sym is) (follow_by action aim processor now more follow)
@@ -94,10 +97,12 @@ met_by (due.Tick processor) now deeds (more, is, just) =
     subst (λ l. AreBy now l) (sym is) (one_by now (Tick processor now) more (omega arith) just)
 met_by (due.Look processor) now deeds (source, more, is, just) = subst (λ l. AreBy now l) (sym is) (pulls_by source processor now more just)
 
+-- a last reading that rises by a reading no later than an instant is no later than that
 rises_by : (now last next : ℕ) (reading : Option ℕ) → IsReadBy now reading → ReadingRises last reading next → last ≤ now → next ≤ now
 rises_by now last next None read rises low = omega (arith, rises, low)
 rises_by now last next (Some reading) read rises low = omega (arith, rises.2, read)
 
+-- there are as many tasks once one has taken up its next action
 act_count : (kinds : List TaskKind) (seed processor task now : ℕ) (c : TaskProgress) (b : Book)
     → length (after_act kinds seed processor task now c b).accounts.by_task ≡ length b.accounts.by_task
 act_count kinds seed processor task now c b =
@@ -148,6 +153,7 @@ by_kept kinds seed periods d e b c now (Looks at then source ∷ deeds) reported
 pub none_stands : (w : Workload) → StandAtActions w.tasks.items (opening_book w.machine)
 none_stands w = record { tasks = λ task c at. absurd (none-some c at); streams = refl }
 
+-- once a simulation has opened all is kept, at instant 0
 opened : (policies : List Accepted) (w : Workload) (d e : Driver) (b : Book) (deeds : List Deed) (first reported : Reported)
     → first_flaw w ≡ None → Starts w.machine.discipline w.machine.size first d
     → Opens policies (processors_in w.machine.size) w.tasks.items deeds
@@ -164,6 +170,7 @@ opened policies w d e b deeds first reported sound starts opens leads =
       few = omega (arith, o.processors_there, processors_in-few w.machine.size);
     }
 
+-- what comes next is not past and comes by the end, and at that instant all is kept
 comes : (w : Workload) (d : Driver) (b : Book) (due : Due) (now time : ℕ)
     → first_flaw w ≡ None → IsKept w.tasks.items now d b → IsNextDue w.machine.duration b.accounts due time
     → (now ≤ time) × (time ≤ w.machine.duration) × IsKept w.tasks.items time d b
@@ -174,6 +181,7 @@ comes w d b due now time sound h next =
       record { agrees = h.agrees; on_time = m.2; read = omega (arith, h.read, m.0); standing = h.standing; all = h.all; few = h.few },
     )
 
+-- all is kept once what comes due is met
 met : (w : Workload) (d e : Driver) (b c : Book) (due : Due) (now : ℕ) (deeds : List Deed) (reported : Reported)
     → first_flaw w ≡ None → now ≤ w.machine.duration → DeedsMeet due now deeds → DeedsLeadIn w d b deeds reported e c
     → IsKept w.tasks.items now d b

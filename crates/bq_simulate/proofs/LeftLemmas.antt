@@ -27,6 +27,7 @@ multiple-past between now some = omega (arith, add-mul (now / between) 1 between
 
 -- Tasks
 
+-- a task has no more left where its phase is done only if it was before
 in-no_more : (s : TaskState) (rings done later : Bool) (steps : ℕ)
     → (later ≡ true → done ≡ true) → left_in s rings later steps ≤ left_in s rings done steps
 in-no_more Asleep rings done later steps h = omega arith
@@ -152,12 +153,13 @@ passed-left kinds now from to (Some id) a = omega (
 
 -- The time of a processor is counted
 
--- what runs there has run so long
+-- what runs at a processor has run uncounted since the time of the processor was counted last
 runs-uncounted : (now task : ℕ) (l : ProcessorState) → l.run ≡ Some task → uncounted_at now task l ≡ now - l.since
 runs-uncounted now task l runs =
     ap (λ (o : Option ℕ). if is_same o (Some task) then now - l.since else 0) runs
     ∙ ap (λ b. if b then now - l.since else 0) (eq-eqb task task refl)
 
+-- what is counted until now has run no longer uncounted than anything else
 just-counted : (b : Bool) (now m : ℕ) → (if b then now - now else 0) ≤ m
 just-counted true now m = omega arith
 just-counted false now m = omega arith
@@ -219,6 +221,7 @@ pub at-most-one : (b : Bool) → (if b then 1 else 0) ≤ 1
 at-most-one true = omega arith
 at-most-one false = omega arith
 
+-- a processor that falls idle has nothing left, except that it may look for a task
 idled-left : (kinds : List TaskKind) (now processor : ℕ) (a : Accounts) (l : ProcessorState)
     → slice_get a.by_processor processor ≡ Some l
     → steps_left_at kinds now (of_processor (idled now) processor a) + left_of_processor now l ≤ steps_left_at kinds now a + 1
@@ -248,6 +251,7 @@ begun-left tick task now l some =
           omega (arith, e, k)
     ]
 
+-- a task that moves to a processor leaves no more to come
 moved-left : (kinds : List TaskKind) (now processor cost task : ℕ) (a : Accounts)
     → steps_left_at kinds now (of_task (moved_to processor cost) task a) ≤ steps_left_at kinds now a
 moved-left kinds now processor cost task a =
@@ -258,6 +262,7 @@ moved-left kinds now processor cost task a =
     task-no_more kinds now a.by_processor a.by_processor task c (if b then lengthened cost c.due else c.due) c.got
     processor true (λ d. omega (arith, d, more)))
 
+-- a task that begins to run at a processor leaves no more to come
 taken-left : (kinds : List TaskKind) (periods : Periods) (now processor task : ℕ) (a : Accounts) (l : ProcessorState)
     → 1 ≤ periods.tick → slice_get a.by_processor processor ≡ Some l
     → steps_left_at kinds now (taken_over processor (Some task) now periods a) ≤ steps_left_at kinds now a
@@ -275,6 +280,7 @@ abbrev pub IsSwitchedLeft : List TaskKind → ℕ → Accounts → ProcessorStat
 IsSwitchedLeft kinds now a l b =
     (steps_left_at kinds now b ≤ steps_left_at kinds now a) ⊎ (steps_left_at kinds now b + left_of_processor now l ≤ steps_left_at kinds now a + 1)
 
+-- so it is once the time of the processor is counted and another task runs, or none
 over-left : (run : Option ℕ) (kinds : List TaskKind) (periods : Periods) (now processor : ℕ) (a : Accounts)
     (l : ProcessorState)
     → 1 ≤ periods.tick → slice_get a.by_processor processor ≡ Some l
@@ -294,6 +300,7 @@ over-left (Some task) kinds periods now processor a l some at =
           (charged_there processor now a l at),
     ))
 
+-- a switch changes nothing if the same task is to run, or counts the time first and lets the other take over
 switched-form : (periods : Periods) (now processor : ℕ) (run : Option ℕ) (a : Accounts) (l : ProcessorState)
     → slice_get a.by_processor processor ≡ Some l
     → accounts_switched processor run now periods a

@@ -10,13 +10,13 @@ use Rattle.bq_simulate.specs.Laws.{AreLines, EventsAreRead, MachinesAreRead, IsW
 use Rattle.bq_simulate.proofs.PlainWordLemmas.{allowed-spaced}
 use Rattle.bq_simulate.proofs.ReadingLemmas.{reading-spaced, plain_words, room_words, words_read, machine_words, plain_machine, room_machine, machine_reads}
 
--- the line that asks for an event is read as just that
+-- the line that asks for an event is read as exactly that
 pub events_are_read : EventsAreRead
 events_are_read image event can fits =
     reading-spaced (event_words image event) (plain_words image event can fits) (room_words image event can fits)
     ∙ words_read image event can fits
 
--- the line that asks for a machine is read as just that
+-- the line that asks for a machine is read as exactly that
 pub machines_are_read : MachinesAreRead
 machines_are_read discipline size =
     reading-spaced (machine_words discipline size) (plain_machine discipline size) (room_machine discipline size) ∙ machine_reads discipline size
@@ -28,12 +28,14 @@ of_each P along [] h = tt
 of_each P along (b ∷ line) h =
     let parts = and_parts (is_allowed b) (list_all is_allowed line) h in (along b parts.0, of_each P along line parts.1)
 
+-- a byte that is allowed in a line is no line feed and no carriage return:
 no_feed : (b : ℕ) → is_allowed b ≡ true → eqb b 10 ≡ false
 no_feed b h = grind (arith, nat_tests)
 
 no_return : (b : ℕ) → is_allowed b ≡ true → eqb b 13 ≡ false
 no_return b h = grind (arith, nat_tests)
 
+-- a line of which no byte is a carriage return has none at any place
 nowhere : (line : List ℕ) (k : ℕ) → AllByRecursion (λ b. eqb b 13 ≡ false) line → eqb (slice_index line k) 13 ≡ false
 nowhere [] k h = refl
 nowhere (b ∷ line) zero h = h.0

@@ -56,6 +56,7 @@ pub current_counted : (o : Option Task) (xs : List Task) (task : ℕ) → id_of 
 current_counted None xs task h = cc
 current_counted (Some t) xs task h = subst (λ n. 1 ≤ count_of_id n (present (Some t) xs)) (same_Some t.id task h) (omega (arith, one_self t))
 
+-- a test that counts as one at least is true
 counted_true : (b : Bool) → 1 ≤ as_number b → b ≡ true
 counted_true true h = refl
 counted_true false h = absurd (omega arith)
@@ -244,6 +245,7 @@ pub same_discipline : (d : Driver) (event : Event) (reply : Reply) (reported : R
     → DrivesEvent d event reply reported e → discipline_of e.machine.discipline ≡ discipline_of d.machine.discipline
 same_discipline d event reply reported e does = ap discipline_of does.happens.moves.same_discipline
 
+-- world and accounts agree after the three events of a wake, if they did before
 wake_agrees : (kinds : List TaskKind) (seed : ℕ) (periods : Periods) (d e : Driver) (b c : Book) (from task now to : ℕ)
     (begun placed drained : Reply) (reported : Reported)
     → placed_at placed ≡ Some to
@@ -337,6 +339,7 @@ block_one kinds seed periods d e b c processor task now reply reported
     (subst (λ x. BookAgrees x (after_answer periods (Block processor now) reply b)) (sym same)
     (block_agrees periods d mid b processor task now reply first does h runs))
 
+-- world and accounts agree after the block of a task that already sleeps by the accounts
 block_met : (kinds : List TaskKind) (seed : ℕ) (periods : Periods) (d e : Driver) (b c : Book) (processor task now : ℕ)
     (deeds : List Deed) (reported : Reported)
     → AreJustEvents (Block processor now ∷ []) deeds → DeedsLead kinds seed periods d b deeds reported e c

@@ -114,11 +114,13 @@ with_pulled-current : (d : Discipline) (p : Running) (o : Option Task) → (with
 with_pulled-current d p None = refl
 with_pulled-current d p (Some t) = refl
 
+-- a processor that runs nothing, even after it could start a task, ran nothing before
 started-none : (d : Discipline) (p : Running) (o : Option Task)
     → p.current ≡ o → id_of (started_if_idle d p o).current ≡ None → id_of o ≡ None
 started-none d p None is h = refl
 started-none d p (Some t) is h = sym (ap id_of is) ∙ h
 
+-- a processor that runs nothing after a pull ran nothing before
 pull-keeps : (d : Discipline) (w v : World) (processor from now : ℕ) (calls : List CounterCall) (r : Reply)
     → WorldStep (by_programs d) w (Pull processor from now) calls (Ok r) v → runs_now r ≡ None
     → id_of (processor_at w processor).running.current ≡ None
@@ -194,6 +196,7 @@ no-tick end processor now a l next at look = elim (cases_Bool (is_same l.tick (S
   | inr not ↦ not
 ]
 
+-- a look takes one at least of what may still come
 look-takes : (kinds : List TaskKind) (seed : ℕ) (periods : Periods) (d e : Driver) (b c : Book) (processor now end : ℕ)
     (deeds : List Deed) (reported : Reported)
     → 1 ≤ periods.tick → 1 ≤ periods.balance → IsNextDue end b.accounts (due.Look processor) now
@@ -254,6 +257,7 @@ woken-most : (kinds : List TaskKind) (now : ℕ) (ls : List ProcessorState) (tas
     → left_of_task kinds now ls task (progress_woken k) ≤ steps_ahead kinds k * 2
 woken-most kinds now ls task k = at-most Runnable (k.timer == now) (nat_le 0 (0 + uncounted now ls task)) (steps_ahead kinds k) refl
 
+-- a timer that rings takes one at least of what may still come
 ring-takes : (kinds : List TaskKind) (seed : ℕ) (periods : Periods) (d e : Driver) (b c : Book) (task now : ℕ)
     (deeds : List Deed) (reported : Reported)
     → 1 ≤ periods.tick → DeedsMeet (due.Wake task) now deeds → DeedsLead kinds seed periods d b deeds reported e c
@@ -271,6 +275,7 @@ ring-takes kinds seed periods d e b c task now deeds reported some (home, more, 
           (omega (arith, has, woken-most kinds now ls task k)),
     )
 
+-- a wake that a running task gives, or that is missed, leaves at most one thing more to come
 wakes-left : (kinds : List TaskKind) (seed : ℕ) (periods : Periods) (d e : Driver) (b c : Book) (processor task now : ℕ)
     (deeds : List Deed) (reported : Reported)
     → 1 ≤ periods.tick → WakesTask task processor now deeds → DeedsLead kinds seed periods d b deeds reported e c
@@ -292,6 +297,7 @@ wakes-left kinds seed periods d e b c processor task now deeds reported some (in
 
 -- Ends of phases
 
+-- a block, or whatever else follows an action, leaves at most one thing more to come:
 block-left : (kinds : List TaskKind) (seed : ℕ) (periods : Periods) (d e : Driver) (b c : Book) (processor now : ℕ)
     (deeds : List Deed) (reported : Reported)
     → 1 ≤ periods.tick → AreJustEvents (Block processor now ∷ []) deeds → DeedsLead kinds seed periods d b deeds reported e c
@@ -337,6 +343,7 @@ since-now : (b : Bool) (now since : ℕ) → since ≡ now → (if b then now - 
 since-now true now since is = omega (arith, is)
 since-now false now since is = omega arith
 
+-- a task that runs at only one processor has run no time uncounted if that one is counted until now
 none-uncounted : (now processor task : ℕ) (a : Accounts) (l : ProcessorState)
     → slice_get a.by_processor processor ≡ Some l → l.run ≡ Some task → l.since ≡ now → RunsAlone a processor
     → uncounted now a.by_processor task ≡ 0
@@ -354,6 +361,7 @@ none-uncounted now processor task a l at runs since alone =
       ]),
     )
 
+-- the end of a phase takes one at least of what may still come
 end-takes : (w : Workload) (d e : Driver) (b c : Book) (processor now : ℕ) (deeds : List Deed) (reported : Reported)
     → first_flaw w ≡ None → now < 2 ^ 48 → DeedsMeet (due.End processor) now deeds → DeedsLeadIn w d b deeds reported e c
     → IsKept w.tasks.items now d b

@@ -79,6 +79,7 @@ sized_alone at processor g a alone other task here there =
 
 -- Single events
 
+-- nothing is past after a tick, if nothing was before
 tick_time : (kinds : List TaskKind) (seed : ℕ) (periods : Periods) (d e : Driver) (b c : Book) (processor now : ℕ)
     (deeds : List Deed) (reported : Reported)
     → 1 ≤ periods.tick → AreJustEvents (Tick processor now ∷ []) deeds → DeedsLead kinds seed periods d b deeds reported e c → BookAgrees d b
@@ -93,6 +94,7 @@ tick_time kinds seed periods d e b c processor now deeds reported some (reply, m
     (switched_any periods now processor (runs_now reply) (world_of e) a some (tasks_run_alone (world_of d) a processor h)
     (subst (λ (x : Accounts). AgreesWith (world_of e) x) its after) time)
 
+-- a task that passes from one queue to another, if one does, leaves nothing past and changes nothing of who runs:
 passed_on_time : (now processor from : ℕ) (task : Option ℕ) (a : Accounts)
     → IsOnTime now a → IsOnTime now (option_map_or (λ _. accounts_passed from processor a) task a)
 passed_on_time now processor from None a h = h
@@ -105,6 +107,7 @@ passed_alone processor from None a alone = alone
 passed_alone processor from (Some id) a alone =
     sized_alone processor processor (λ n. n + 1) (shrunk from a) (sized_alone from processor (λ n. n - 1) a alone)
 
+-- where nothing is done nothing is past, if nothing was before
 nothing_time : (kinds : List TaskKind) (seed : ℕ) (periods : Periods) (d e : Driver) (b c : Book) (now : ℕ)
     (deeds : List Deed) (reported : Reported)
     → deeds ≡ [] → DeedsLead kinds seed periods d b deeds reported e c → IsOnTime now b.accounts
@@ -113,6 +116,7 @@ nothing_time kinds seed periods d e b c now deeds reported none leads h =
     let (nothing, same, kept) = subst (λ l. DeedsLead kinds seed periods d b l reported e c) none leads in
     same_accounts now b.accounts c.accounts (ap (λ (x : Book). x.accounts) kept) h
 
+-- nothing is past after a pull, or without one, if nothing was before
 look_time : (source : Option ℕ) (kinds : List TaskKind) (seed : ℕ) (periods : Periods) (d e : Driver) (b c : Book)
     (processor now : ℕ) (deeds : List Deed) (reported : Reported)
     → 1 ≤ periods.tick → AreJustEvents (pulls_of processor now source) deeds → DeedsLead kinds seed periods d b deeds reported e c
@@ -155,6 +159,7 @@ woken_on_time now task a rests h = record {
       (h.processors k l at);
 }
 
+-- nothing is past after a wake, or after one that may be missed, if nothing was before:
 wake_time : (kinds : List TaskKind) (seed : ℕ) (periods : Periods) (d e : Driver) (b c : Book) (from task now : ℕ)
     (deeds : List Deed) (reported : Reported)
     → 1 ≤ periods.tick → AreWake from task now deeds → DeedsLead kinds seed periods d b deeds reported e c
@@ -206,6 +211,7 @@ acted_got (Some (Sleep asked)) kinds length now c = refl
 acted_got (Some Wait) kinds length now c = refl
 acted_got (Some (Wake kind)) kinds length now c = refl
 
+-- a task that falls asleep by its action has a timer that is not past
 acted_timer : (action : Option Action) (kinds : List TaskKind) (length now : ℕ) (c : TaskProgress)
     → now < 2 ^ 48 → (c.task_state ≡ Asleep → ⊥) → (acted kinds action length now c).task_state ≡ Asleep
     → now ≤ (acted kinds action length now c).timer
@@ -254,6 +260,7 @@ given_on_time now processor task a c new l at runs since there got timer alone h
       ];
     }
 
+-- nothing is past after a block, if nothing was before
 block_time : (kinds : List TaskKind) (seed : ℕ) (periods : Periods) (d e : Driver) (b c : Book) (processor now : ℕ)
     (deeds : List Deed) (reported : Reported)
     → 1 ≤ periods.tick → AreJustEvents (Block processor now ∷ []) deeds → DeedsLead kinds seed periods d b deeds reported e c
@@ -269,6 +276,7 @@ block_time kinds seed periods d e b c processor now deeds reported some (reply, 
     (sized_alone processor processor (λ n. n - 1) b.accounts alone) (subst (λ (x : Accounts). AgreesWith (world_of e) x) its after)
     (sized_on_time now processor (λ n. n - 1) b.accounts time))
 
+-- nothing is past after what follows an action, if nothing was before
 follow_time : (action : Option Action) (aim : Option ℕ) (kinds : List TaskKind) (seed : ℕ) (periods : Periods) (d e : Driver)
     (a : Accounts) (b f : Book) (processor task length now : ℕ) (c : TaskProgress) (deeds : List Deed) (reported : Reported)
     → 1 ≤ periods.tick → FollowsAction action aim processor now deeds
@@ -326,6 +334,7 @@ taken_up_on_time action kinds w was processor task length now c early h done tim
           (tasks_run_alone w a processor agrees) counted
     ]
 
+-- nothing is past after the end of a phase is met, if nothing was before
 end_time : (kinds : List TaskKind) (seed : ℕ) (periods : Periods) (d e : Driver) (b c : Book) (processor now : ℕ)
     (deeds : List Deed) (reported : Reported)
     → 1 ≤ periods.tick → now < 2 ^ 48 → DeedsMeet (due.End processor) now deeds → DeedsLead kinds seed periods d b deeds reported e c

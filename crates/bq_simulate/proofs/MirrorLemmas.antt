@@ -119,6 +119,7 @@ homes_task count task f a kept h k c at =
       | inr is ↦ subst (λ (x : TaskProgress). x.home < count) (sym is) (kept was.0 (h k was.0 was.1))
     ]
 
+-- the time of the task that runs is counted, and each task was still last at one of the processors
 homes_charged_by : (count : ℕ) (l : ProcessorState) (now : ℕ) (a : Accounts)
     → HaveProcessors count a → HaveProcessors count (runner_charged l now a)
 homes_charged_by count l now a h =
@@ -133,6 +134,7 @@ homes_charged count processor now a h =
     HaveProcessors count (option_map_or (λ (l : ProcessorState). of_processor f processor (runner_charged l now a)) o a))
     [ None ↦ h | Some l ↦ homes_charged_by count l now a h ]
 
+-- another task runs there, or none, and each task was still last at one of the processors
 homes_taken_over : (count processor : ℕ) (run : Option ℕ) (now : ℕ) (periods : Periods) (a : Accounts)
     → processor < count → HaveProcessors count a
     → HaveProcessors count (taken_over processor run now periods a)

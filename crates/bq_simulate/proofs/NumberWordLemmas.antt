@@ -17,6 +17,7 @@ use Rattle.bq_simulate.proofs.PlainWordLemmas.{is_plain, IsPlain}
 digit_plain : (c : ℕ) → digit_value c < 10 → is_plain c ≡ true
 digit_plain c h = grind (arith, nat_tests)
 
+-- digits are all plain bytes, and all pass the test of a digit:
 digits_plain : (ds : List ℕ) → AllDigits 10 ds → list_all is_plain ds ≡ true
 digits_plain [] h = refl
 digits_plain (c ∷ ds) h = rw (digit_plain c h.0) (digits_plain ds h.1)
@@ -34,6 +35,7 @@ plain_decimal n h = let numeral = (decimal_is_IsNumeral n h).0 in record { some 
 pub short_decimal : (n : ℕ) → n < 2 ^ 64 → length (decimal n) ≤ 20
 short_decimal n h = length-decimal-le 20 n (lit< tt) (omega (arith)) h
 
+-- digits whose value 64 bits can hold are read as that value
 if_all : (ds : List ℕ) (n : ℕ) → 0 < length ds → list_all (λ c. ltb (digit_value c) 10) ds ≡ true
     → digits_value 10 ds ≡ n → n < 2 ^ 64
     → number_in_base 10 ds ≡ Some n

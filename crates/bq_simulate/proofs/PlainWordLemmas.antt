@@ -20,6 +20,7 @@ pub record IsPlain (w : List ℕ) : Type 0 where
   pub some : 0 < length w
   pub each : list_all is_plain w ≡ true
 
+-- a plain byte is no space, and is allowed in a line:
 plain_no_space : (b : ℕ) → is_plain b ≡ true → is_space b ≡ false
 plain_no_space b h = grind (arith, nat_tests)
 
@@ -31,16 +32,20 @@ of_each : (P : ℕ → Type 0) → ((b : ℕ) → is_plain b ≡ true → P b) �
 of_each P along [] h = tt
 of_each P along (b ∷ w) h = let parts = and_parts (is_plain b) (list_all is_plain w) h in (along b parts.0, of_each P along w parts.1)
 
+-- no byte of a plain word is a space
 no_space : (w : List ℕ) → IsPlain w → All (λ b. is_space b ≡ false) w
 no_space w h = All-from_recursion (λ b. is_space b ≡ false) w (of_each (λ b. is_space b ≡ false) plain_no_space w h.each)
 
+-- where each byte passes a test all of them pass it
 passes : (p : ℕ → Bool) (w : List ℕ) → AllByRecursion (λ b. p b ≡ true) w → list_all p w ≡ true
 passes p [] h = refl
 passes p (b ∷ w) h = rw h.0 (passes p w h.1)
 
+-- each byte of a plain word is allowed in a line
 allowed_word : (w : List ℕ) → IsPlain w → list_all is_allowed w ≡ true
 allowed_word w h = passes is_allowed w (of_each (λ b. is_allowed b ≡ true) plain_allowed w h.each)
 
+-- a word that is not empty is kept in front of the others
 kept_word : (w : List ℕ) (ws : List (List ℕ)) → 0 < length w → cond (ltb 0 (length w)) (w ∷ ws) ws ≡ w ∷ ws
 kept_word w ws some = let e : ltb 0 (length w) ≡ true = grind (arith, nat_tests) in ap (λ t. cond t (w ∷ ws) ws) e
 
@@ -60,6 +65,7 @@ words-spaced [] h = refl
 words-spaced (w ∷ []) h = words-last w h.0
 words-spaced (w ∷ x ∷ ws) h = words-plain w (spaced_words (x ∷ ws)) h.0 ∙ ap (λ l. w ∷ l) (words-spaced (x ∷ ws) h.1)
 
+-- where two words and a space pass a test, the words with a space between them pass it
 all_with_space : (p : ℕ → Bool) (w rest : List ℕ) → list_all p w ≡ true → p 32 ≡ true → list_all p rest ≡ true
     → list_all p (w ++ 32 ∷ rest) ≡ true
 all_with_space p w rest first space more = list_all-append p w (32 ∷ rest) ∙ rw (first, space, more) refl

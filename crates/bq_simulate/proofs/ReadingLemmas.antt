@@ -47,6 +47,7 @@ known w h =
     let parts = and_parts (ltb 0 (length w)) (list_all is_plain w) h in
     record { some = let long = parts.0 in grind (arith, nat_tests); each = parts.1 }
 
+-- keywords and the names of hooks are plain words, and those of hooks are short:
 plain_keyword : (keyword : Keyword) → IsPlain (keyword_word keyword)
 plain_keyword keywords.Install = known _ refl
 plain_keyword keywords.Machine = known _ refl
@@ -73,6 +74,7 @@ short_hook hooks.Place = lit≤ tt
 short_hook hooks.Preempt = lit≤ tt
 short_hook hooks.Pull = lit≤ tt
 
+-- the word of an image that can stand in a line is plain, and a line has room for it:
 plain_image : (image : Option (List ℕ)) → CanStandInLine image → IsPlain (image_word image)
 plain_image None h = known (codes "none") refl
 plain_image (Some bytes) h = plain_hex bytes h.each h.some
@@ -155,6 +157,7 @@ reads_image : (image : Option (List ℕ)) (c generation : ℕ) (hook : Hook)
 reads_image None c generation hook can = refl
 reads_image (Some bytes) c generation hook can = rw (hex_not_none bytes can.each) refl
 
+-- the words of a processor, a hook, a generation and an image ask for an install of it
 of_install : (a b : Option ℕ) (d : Option Hook) (word : List ℕ) (c generation : ℕ) (hook : Hook) (command : LineCommand)
     → a ≡ Some c → b ≡ Some generation → d ≡ Some hook → reads_install (c, generation, hook, word) ≡ command
     → reading_of_command (option_map reads_install (option_and_then (λ c. option_and_then (λ g. option_map (λ h. (c, g, h, word)) d) b) a))
@@ -187,32 +190,35 @@ words_read image (Pull c from now) can h =
 abbrev pub machine_words : DisciplineName → ProcessorCount → List (List ℕ)
 machine_words discipline size = keyword_word keywords.Machine ∷ discipline_word discipline ∷ decimal (processors_in size) ∷ []
 
-plain_rule : (discipline : DisciplineName) → IsPlain (discipline_word discipline)
-plain_rule Cfs = known (codes "cfs") refl
-plain_rule Eevdf = known (codes "eevdf") refl
+-- the word of a discipline is plain, and has at most five bytes:
+plain_discipline : (discipline : DisciplineName) → IsPlain (discipline_word discipline)
+plain_discipline Cfs = known (codes "cfs") refl
+plain_discipline Eevdf = known (codes "eevdf") refl
 
-short_rule : (discipline : DisciplineName) → length (discipline_word discipline) ≤ 5
-short_rule Cfs = lit≤ tt
-short_rule Eevdf = lit≤ tt
+short_discipline : (discipline : DisciplineName) → length (discipline_word discipline) ≤ 5
+short_discipline Cfs = lit≤ tt
+short_discipline Eevdf = lit≤ tt
 
 -- the words of a machine are plain
 pub plain_machine : (discipline : DisciplineName) (size : ProcessorCount) → AllByRecursion IsPlain (machine_words discipline size)
 plain_machine discipline size =
     let small = processors_in-few size in
-    (plain_keyword keywords.Machine, (plain_rule discipline, (plain_decimal (processors_in size) (omega arith), tt)))
+    (plain_keyword keywords.Machine, (plain_discipline discipline, (plain_decimal (processors_in size) (omega arith), tt)))
 
 -- a line has room for the words of a machine
 pub room_machine : (discipline : DisciplineName) (size : ProcessorCount) → room (machine_words discipline size) ≤ 131072
 room_machine discipline size =
     let small = processors_in-few size in
     let number = short_decimal (processors_in size) (omega arith) in
-    let word = short_rule discipline in
+    let word = short_discipline discipline in
     omega arith
 
+-- the word of a discipline is read as that discipline
 discipline_named-word : (discipline : DisciplineName) → discipline_named (discipline_word discipline) ≡ Some discipline
 discipline_named-word Cfs = refl
 discipline_named-word Eevdf = refl
 
+-- the size of a machine is read back from its number of processors, and from the word for it:
 size_of-number : (size : ProcessorCount) → size_numbered (processors_in size) ≡ Some size
 size_of-number One = refl
 size_of-number Two = refl

@@ -99,9 +99,11 @@ framed_fits bytes header program framed slots =
     let whole = framed.whole in
     (omega (arith, all, head), omega (arith, all, most, whole, slots))
 
+-- an image that loads is not empty, and not too long for a line
 fits_line : (bytes : List ℕ) (policy : Accepted) → Loads bytes policy → (0 < length bytes) × (length bytes ≤ 65472)
 fits_line bytes policy h = framed_fits bytes _ (spelling h.insns) h.image.framed h.image.most
 
+-- the image from which a policy was loaded can stand in a line
 can_stand : (image : Option (List ℕ)) (policy : Accepted) → IsLoadedFromImage image policy → CanStandInLine image
 can_stand image policy h =
     let fits = fits_line h.bytes policy h.loads in
@@ -202,6 +204,7 @@ record Goes (images : ByHook) (d e : Driver) (reported : Reported) (n : ℕ) : T
   chain : AnswersAll (after (Running d.machine) n) (reported_lines images reported) (texts reported) (after (Running e.machine) last)
   whole : AllByRecursion IsWholeLine (reported_lines images reported)
 
+-- where no event is done there is no line to answer
 goes_nowhere : (images : ByHook) (d e : Driver) (n : ℕ) → e ≡ d → Goes images d e [] n
 goes_nowhere images d e n same = record { last = n; chain = (refl, ap (λ (x : Driver). after (Running x.machine) n) same); whole = tt }
 
@@ -228,6 +231,7 @@ goes_on images d mid e event reply first more n done from fits rest =
       whole = subst (AllByRecursion IsWholeLine) (sym all) (are_lines.events (brought images event) event stands numbers, rest.whole);
     }
 
+-- the lines of events that were done one after another are answered as the events were
 goes : (images : ByHook) (d e : Driver) (events : List Event) (reported : Reported) (n : ℕ)
     → Drives d events reported e → AllByRecursion (IsFromImages images) events → AreFitting reported
     → Goes images d e reported n
@@ -237,7 +241,7 @@ goes images d e (event ∷ events) reported n h from fits =
     subst (λ t. Goes images d e t n) (sym h.6)
     (goes_on images d h.1 e event h.0 h.2 h.3 n h.4 from.0 parts.0 (goes images h.1 e events h.3 (one_more n) h.5 from.1 parts.1))
 
--- whole lines, each with its line feed, are the lines of the text
+-- whole lines keep their bytes, are one line each, and are the lines of the text in which each has its line feed:
 strip_whole : (ls : List (List ℕ)) → AllByRecursion IsWholeLine ls → map strip_carriage_return ls ≡ ls
 strip_whole [] h = refl
 strip_whole (line ∷ ls) h = ap (λ l. l ∷ map strip_carriage_return ls) h.0.same ∙ ap (λ l. line ∷ l) (strip_whole ls h.1)
@@ -251,6 +255,7 @@ lines_whole ls h =
     ap lines (sym (append-nil (with_feeds ls))) ∙ lines-with_feeds ls [] (one_lines ls h)
     ∙ append-nil (map strip_carriage_return ls) ∙ strip_whole ls h
 
+-- comments, and whole lines after them, are whole lines
 comments_whole : (comments : List (List ℕ)) (ls : List (List ℕ))
     → AllByRecursion IsComment comments → AllByRecursion IsWholeLine ls
     → AllByRecursion IsWholeLine (comments ++ ls)

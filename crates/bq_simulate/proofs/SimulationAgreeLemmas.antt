@@ -289,6 +289,7 @@ read_same v d x is zero k = refl
 read_same v d x is (suc n) zero = is
 read_same v d x is (suc n) (suc k) = read_same v d x is n k
 
+-- a new world agrees with the accounts at the opening
 opening_agrees : (n balance : ℕ) → AgreesWith (opening_world n) (opening_accounts n balance)
 opening_agrees n balance =
     let x : ProcessorState = processor_at_rest (first_look n balance) in
@@ -391,6 +392,7 @@ proceeds_agree policies w d e b most end deeds first reported starts p leads =
     met_agree kinds seed periods s.mid e s.book b m.steps s.more
     (subst (λ l. DeedsLead kinds seed periods s.mid s.book l s.more e b) m.whole s.two) opened.agree
 
+-- world and accounts agree at the close of a simulation
 whole_agrees : (policies : List Accepted) (w : Workload) (reported : Reported) (s : IsSimulation policies w reported)
     → BookAgrees s.closing s.book
 whole_agrees policies w reported s =

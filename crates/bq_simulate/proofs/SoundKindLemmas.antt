@@ -36,10 +36,12 @@ pub record IsSoundKind (kinds : ℕ) (kind : TaskKind) : Type 0 where
   pub wakes : (place number : ℕ) → slice_get kind.actions.items place ≡ Some (Wake number) → number < kinds
   pub each : (place : ℕ) (action : Action) → slice_get kind.actions.items place ≡ Some action → is_action kinds action ≡ true
 
+-- where one action takes time there is at least one
 some_action : (actions : List Action) → list_any takes_time actions ≡ true → 1 ≤ length actions
 some_action [] h = absurd (false≢true h)
 some_action (x ∷ xs) h = omega arith
 
+-- where actions have no flaw each has a length in its range, or wakes one of the kinds
 action_sound : (kinds number from : ℕ) (actions : List Action) (place : ℕ) (action : Action)
     → slice_get (flaws_of_actions kinds number from actions) 0 ≡ None → slice_get actions place ≡ Some action
     → is_action kinds action ≡ true
@@ -51,6 +53,7 @@ action_sound kinds number from (x ∷ xs) (suc place) action h at =
     let first = parts_sound (unless (is_action kinds x) (flaw.Action number from)) (flaws_of_actions kinds number (from + 1) xs) h in
     action_sound kinds number (from + 1) xs place action first.1 at
 
+-- a kind without a flaw has tasks, and actions as they are to be
 kind_sound : (processors kinds number : ℕ) (kind : TaskKind) → slice_get (flaws_of_kind processors kinds number kind) 0 ≡ None
     → IsSoundKind kinds kind
 kind_sound processors kinds number kind h =
@@ -77,6 +80,7 @@ pub record IsAdmissible (processors : ℕ) (kind : TaskKind) : Type 0 where
   pub numbers : has_numbers kind ≡ true
   pub mask : allows_one processors kind.mask ≡ true
 
+-- a kind without a flaw has numbers in their ranges, and a mask that allows a processor
 kind_admissible : (processors kinds number : ℕ) (kind : TaskKind)
     → slice_get (flaws_of_kind processors kinds number kind) 0 ≡ None → IsAdmissible processors kind
 kind_admissible processors kinds number kind h =
@@ -148,6 +152,7 @@ pub record HasTimes (machine : Setup) : Type 0 where
   pub tick_counted : machine.tick < 2 ^ 48
   pub balance_counted : machine.balance < 2 ^ 48
 
+-- a machine whose times pass the test has times that can be counted
 times_of : (machine : Setup) → has_times machine ≡ true → HasTimes machine
 times_of machine h =
     let all =

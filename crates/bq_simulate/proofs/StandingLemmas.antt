@@ -45,6 +45,7 @@ pub record IsOfPlaces (P : Accounts → Type 0) : Type 0 where
   pub tasks : (f : TaskProgress → TaskProgress) → ((c : TaskProgress) → SamePlace c (f c)) → (task : ℕ) (a : Accounts) → P a
       → P (of_task f task a)
 
+-- it holds still once the time of the task that runs is counted
 charged_by_keeps : (P : Accounts → Type 0) → IsOfPlaces P → (l : ProcessorState) (now : ℕ) (a : Accounts) → P a → P (runner_charged l now a)
 charged_by_keeps P of l now a h =
     elim l.run as (λ (o : Option ℕ). P (runner_charged (record l { run = o }) now a)) [
@@ -61,6 +62,7 @@ charged_keeps P of processor now a h =
       | Some l ↦ of.processors (λ x. record x { since = now }) processor (runner_charged l now a) (charged_by_keeps P of l now a h)
     ]
 
+-- it holds still once another task runs, or none, and after a switch:
 taken_over_keeps : (P : Accounts → Type 0) → IsOfPlaces P
     → (processor : ℕ) (run : Option ℕ) (now : ℕ) (periods : Periods) (a : Accounts) → P a
     → P (taken_over processor run now periods a)
@@ -87,6 +89,7 @@ switched_keeps P of processor run now periods a h =
           (taken_over_keeps P of processor run now periods (accounts_charged processor now a) (charged_keeps P of processor now a h))
     ]
 
+-- it holds still where a processor has a task less, has more, or passes one to another:
 shrunk_keeps : (P : Accounts → Type 0) → IsOfPlaces P → (processor : ℕ) (a : Accounts) → P a → P (shrunk processor a)
 shrunk_keeps P of processor a h = of.processors (λ l. record l { size = l.size - 1 }) processor a h
 
@@ -98,7 +101,7 @@ passed_keeps : (P : Accounts → Type 0) → IsOfPlaces P → (from to : ℕ) (t
 passed_keeps P of from to None a h = h
 passed_keeps P of from to (Some task) a h = grown_keeps P of to 1 (shrunk from a) (shrunk_keeps P of from a h)
 
--- an event
+-- it holds still after each event
 pub event_keeps : (P : Accounts → Type 0) → IsOfPlaces P
     → (periods : Periods) (event : Event) (reply : Reply) (a : Accounts) → P a
     → P (after_event periods event reply a)
@@ -218,10 +221,12 @@ advanced_by_test w sound task c false test h =
       woken = λ number next. wake_counts w sound e number next;
     }
 
+-- a task that goes on to its next action stands at an action of its kind
 advanced_stands : (w : Workload) → first_flaw w ≡ None → (task : ℕ) (c : TaskProgress) → StandsAtAction w.tasks.items task c
     → StandsAtAction w.tasks.items task (advanced_in w.tasks.items c)
 advanced_stands w sound task c h = advanced_by_test w sound task c (nat_le (action_count w.tasks.items c) (c.action + 1)) refl h
 
+-- wakes that are equal wake the same kind
 kind_woken : (m n : ℕ) → Wake m ≡ Wake n → m ≡ n
 kind_woken m n h = cc
 
@@ -240,7 +245,7 @@ woken_by_test w sound task kind c true test is h = record {
 }
 woken_by_test w sound task kind c false test is h = advanced_stands w sound task c h
 
--- it does its action
+-- a task that does its action stands at an action of its kind
 acted_stands : (w : Workload) → first_flaw w ≡ None → (action : Option Action) (task length now : ℕ) (c : TaskProgress)
     → next_action w.tasks.items c ≡ action → StandsAtAction w.tasks.items task c
     → StandsAtAction w.tasks.items task (acted w.tasks.items action length now c)
@@ -268,6 +273,7 @@ drawn_length : (task : ℕ) (drawn : List ℕ) (asked : Option Length) → lengt
 drawn_length task drawn None = refl
 drawn_length task drawn (Some asked) = changed_at-length suc drawn task
 
+-- each task stands at an action of its kind once one has taken up its next action
 act_stands : (w : Workload) → first_flaw w ≡ None → (processor task now : ℕ) (c : TaskProgress) (b : Book)
     → slice_get (accounts_charged processor now b.accounts).by_task task ≡ Some c → StandAtActions w.tasks.items b
     → StandAtActions w.tasks.items (after_act w.tasks.items w.machine.seed processor task now c b)
@@ -288,6 +294,7 @@ act_stands w sound processor task now c b there h =
       streams = drawn_length task b.drawn (asked_by next) ∙ h.streams ∙ sym (changed_at-length (λ _. new) a.by_task task ∙ long);
     }
 
+-- each task stands at an action of its kind once one more is there
 join_stands : (w : Workload) → first_flaw w ≡ None → (kind home : ℕ) (b : Book)
     → IsTaskOfKind w.tasks.items (length b.accounts.by_task) kind → StandAtActions w.tasks.items b
     → StandAtActions w.tasks.items (task_added w.tasks.items kind home b)

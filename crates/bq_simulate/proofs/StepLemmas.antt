@@ -1,4 +1,4 @@
--- Deeds of one form after another.
+-- Things that come due in their order and are met, one after another, and what the deeds of that leave.
 use Rattle.std.proofs.Common.{◌≡◌, ℕ, ◌+◌, ◌≤◌, List, [], ◌∷◌, ◌++◌, refl, sym, ap, ◌∙◌, subst, arith, append-nil, length, length-append}
 use Rattle.std.proofs.lemmas.Grind.{flat_map-append}
 use Rattle.bq_workload.specs.declared.due.Due.{Due}

@@ -145,6 +145,7 @@ no_stray_processor periods processor now a h (inl none) =
     none-some (record h.state { since = now }) (sym none ∙ charged_there processor now a h.state h.at)
 no_stray_processor periods processor now a h (inr high) = omega (arith, high, h.low)
 
+-- no takeover goes astray after which the accounts agree with a world, whether a task is to run or none
 no_stray_takeover : (run : Option ℕ) (periods : Periods) (v : World) (processor now : ℕ) (a : Accounts) (l : ProcessorState)
     → slice_get a.by_processor processor ≡ Some l → is_same l.run run ≡ false
     → CanSwitch periods processor now a → AgreesWith v (accounts_switched processor run now periods a)

@@ -17,6 +17,7 @@ unfolding after_draws
 after_more zero g = refl
 after_more (suc n) g = after_more n (after_draw g)
 
+-- a stream that has given nothing is as it began
 no_draws : (g : Lcg) → after_draws zero g ≡ g
 unfolding after_draws
 no_draws g = refl
@@ -38,6 +39,7 @@ pub record IsAt (seed first task : ℕ) (drawn : List ℕ) (g : Lcg) : Type 0 wh
   pub there : slice_get drawn task ≡ Some draws
   pub value : g ≡ after_draws draws (stream_of_task seed (first + task))
 
+-- each stream in the list has given the number of lengths that is counted for its task
 stream-at : (seed first task : ℕ) (drawn : List ℕ) (g : Lcg) → slice_get (streams_after seed first drawn) task ≡ Some g
     → IsAt seed first task drawn g
 stream-at seed first task [] g there = absurd (true≢false (sym (ap is_some there)))
@@ -71,6 +73,7 @@ pub record Gave (task : ℕ) (asked : Option Length) (s : Simulation) (drawn : L
   pub seed : t.seed ≡ s.seed
   pub firsts : t.firsts ≡ s.firsts
 
+-- a length that is drawn is the next of its task's stream, and nothing else changes
 drew : (task : ℕ) (asked : Length) (s : Simulation) (length : ℕ) (t : Simulation)
     → DrawsLength task asked s length t → (drawn : List ℕ) → HasDrawn s drawn
     → Gave task (Some asked) s drawn length t

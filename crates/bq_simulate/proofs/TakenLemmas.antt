@@ -48,6 +48,7 @@ use Rattle.bq_simulate.proofs.MirrorLemmas.{agree_after, at_set_else, each, home
 
 -- Ticks
 
+-- world and accounts agree after a tick that is done
 tick_kept : (d : Discipline) (periods : Periods) (w v : World) (a : Accounts) (processor now : ℕ)
     (calls : List CounterCall) (r : Reply)
     → AgreesWith w a → processor < count_in w → WorldStep (by_programs d) w (Tick processor now) calls (Ok r) v
@@ -103,6 +104,7 @@ away_there : (w : World) (task : ℕ) → is_away (entry_of_id w task) ≡ true 
 away_there w task h = elim (cases_lt task (length w.lobby))
     [ inl l ↦ l | inr g ↦ absurd (true≢false (sym h ∙ ap is_away (get_or_past w.lobby task Absent g))) ]
 
+-- world and accounts agree after the block of a task that already sleeps by the accounts
 block_kept : (d : Discipline) (periods : Periods) (w v : World) (a : Accounts) (processor task now : ℕ)
     (calls : List CounterCall) (r : Reply)
     → AgreesBut task w a → processor < count_in w → runner_at a.by_processor processor ≡ Some task
@@ -193,6 +195,7 @@ pub record Pulled (w : World) (a b : Accounts) : Type 0 where
   pub processors : RunsAs w b
   pub states : (task : ℕ) → state_at b.by_task task ≡ state_at a.by_task task
 
+-- after a pull both processors are as the accounts say, whether it took a task or none
 pulled_by_case : (task : Option ℕ) (periods : Periods) (w : World) (a : Accounts) (processor from now moved : ℕ)
     (run : Option ℕ) (here other : Processor)
     → RunsAs w a → processor < count_in w → from < count_in w → processor ≢ from → moved ≡ option_map_or (λ _. 1) task 0
@@ -241,6 +244,7 @@ pulled_by_case (Some id) periods w a processor from now moved run here other h l
       states = λ task. reads.states task ∙ first.states task;
     }
 
+-- each task was still last at one of the processors where one passes from queue to queue, or none does
 homes_passed : (count processor from : ℕ) (task : Option ℕ) (a : Accounts)
     → HaveProcessors count a → HaveProcessors count (option_map_or (λ _. accounts_passed from processor a) task a)
 homes_passed count processor from None a h = h
@@ -290,6 +294,7 @@ pulled_from_some d w v processor from now calls r orderly some step =
     there in
     omega (arith, t.0, t.1, one (task_pulled r) some)
 
+-- world and accounts agree after a pull that is done
 pull_kept : (d : Discipline) (periods : Periods) (w v : World) (a : Accounts) (processor from now : ℕ)
     (calls : List CounterCall) (r : Reply)
     → AgreesWith w a → processor < count_in w → from < count_in w → processor ≢ from
@@ -359,6 +364,7 @@ draws_are_taken d periods w a h =
           h.homes;
     }
 
+-- a hook is the same as itself
 same_hook_itself : (hook : Hook) → same_hook hook hook ≡ true
 same_hook_itself hooks.Place = refl
 same_hook_itself hooks.Preempt = refl

@@ -42,6 +42,7 @@ pub record TakesUp (kinds : List TaskKind) (now processor task : ℕ) (action : 
   pub accounts : accounts_of t.roster
       ≡ of_task (λ _. acted kinds action lasts now progress) task (accounts_charged processor now (accounts_of s.roster))
 
+-- where only the act of a task was done, the task has taken up its next action
 takes_up : (kinds : List TaskKind) (now processor task : ℕ) (action : Option Action) (aim : Option ℕ)
     (s t : Simulation) (drawn : List ℕ)
     → GoesByUnreportedDeeds kinds (IsAct processor task now action aim) s drawn t
@@ -69,6 +70,7 @@ pub record StandsThen (kinds : List TaskKind) (now processor task : ℕ) (s t : 
   pub runs_then : runner_at t.roster.by_processor.items processor ≡ Some task
   pub on_time : IsOnTime now (accounts_of t.roster)
 
+-- a task that takes up its next action while a simulation goes well still runs then, and nothing is past
 stands_then : (w : Workload) (now processor task : ℕ) (action : Option Action) (aim : Option ℕ) (s t : Simulation)
     → SimulationGoesWell w now s → TakesUp w.tasks.items now processor task action aim s t
     → StandsThen w.tasks.items now processor task s t

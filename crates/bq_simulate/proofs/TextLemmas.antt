@@ -18,6 +18,7 @@ writes_line images old new line utf8 is = record {
   fits = tt;
 }
 
+-- a line that is not UTF-8 fails the test for it
 no_utf8 : (line : List ℕ) → (IsUtf8 line → ⊥) → is_utf8 line ≡ false
 no_utf8 line other = cases (is_utf8 line) refl
   where

@@ -204,15 +204,18 @@ charged_on_time now processor a l at alone h =
 
 -- Another task runs
 
+-- the next look of a processor that falls idle is not past
 idle_look : (now time : ℕ) (look : Option ℕ) → option_map (λ _. now) look ≡ Some time → now ≤ time
 idle_look now time None h = cc
 idle_look now time (Some x) h = let same : now ≡ time = cc in omega (arith, same)
 
+-- a task that moves to a processor still has got no more than its phase takes, if it had before
 moved_phase : (processor cost : ℕ) (c : TaskProgress) → c.got ≤ c.due → (moved_to processor cost c).got ≤ (moved_to processor cost c).due
 moved_phase processor cost c h =
     elim (migrates_to processor c && nat_le c.got c.due)
     as (λ b. c.got ≤ (if b then lengthened cost c.due else c.due)) [ true ↦ omega arith | false ↦ h ]
 
+-- the next tick of a processor at which a task begins to run is not past
 next_tick_later : (periods : Periods) (now : ℕ) (cs : List TaskProgress) (l : ProcessorState)
     → 1 ≤ periods.tick → ProcessorIsOnTime now cs l → now ≤ unwrap_or l.tick (next_multiple periods.tick now)
 next_tick_later periods now cs l some p = elim (some_or_none l.run) [
@@ -224,6 +227,7 @@ next_tick_later periods now cs l some p = elim (some_or_none l.run) [
       subst (λ (o : Option ℕ). now ≤ unwrap_or o (next_multiple periods.tick now)) (sym r.tick) r.later
 ]
 
+-- nothing is past once another task, which ran nowhere else, runs at a processor, or none does
 taken_over_on_time : (periods : Periods) (now processor : ℕ) (run : Option ℕ) (a : Accounts)
     → 1 ≤ periods.tick → ((task : ℕ) → run ≡ Some task → task < length a.by_task)
     → ((task k : ℕ) → run ≡ Some task → k ≢ processor → runner_at a.by_processor k ≢ Some task) → IsOnTime now a
@@ -288,6 +292,7 @@ pub taken_over_tasks : (processor : ℕ) (run : Option ℕ) (now : ℕ) (periods
 taken_over_tasks processor None now periods a = refl
 taken_over_tasks processor (Some task) now periods a = changed_at-length (moved_to processor periods.migration_cost) a.by_task task
 
+-- time is kept whether the same task runs on or another takes over
 switched_by_test : (b : Bool) (periods : Periods) (now processor : ℕ) (run : Option ℕ) (v : World) (a : Accounts)
     (l : ProcessorState)
     → 1 ≤ periods.tick → slice_get a.by_processor processor ≡ Some l → RunsAlone a processor
@@ -330,6 +335,7 @@ busy_runs : (a : Accounts) (processor : ℕ) (l : ProcessorState)
 busy_runs a processor l at busy =
     sym (ap (λ (o : Option ProcessorState). option_map_or (λ (x : ProcessorState). is_some x.run) o false) at) ∙ busy
 
+-- what is something is not nothing
 some_not_none : (o : Option ℕ) → is_some o ≡ true → o ≡ None → ⊥
 some_not_none None h none = cc
 some_not_none (Some x) h none = cc

@@ -47,6 +47,7 @@ pub ring-of : (end task : ℕ) (a : Accounts) (c : TaskProgress)
     → slice_get a.by_task task ≡ Some c → comes_at end a (Wake task) ≡ rings_at end c.task_state c.timer
 ring-of end task a c at = ap (λ (o : Option TaskProgress). option_and_then (λ (x : TaskProgress). rings_at end x.task_state x.timer) o) at
 
+-- the timer of a task that is asleep rings at its time, if that is by the end
 ring-asleep : (end timer : ℕ) (s : TaskState) → s ≡ Asleep → rings_at end s timer ≡ until end timer
 ring-asleep end timer s is = ap (λ x. rings_at end x timer) is
 
@@ -62,6 +63,7 @@ pub record Comes (now time end : ℕ) : Type 0 where
   pub later : now ≤ time
   pub until : time ≤ end
 
+-- what comes is not past and comes by the end, be it the end of a phase, a wake, a tick or a look:
 end_comes : (end now time processor : ℕ) (a : Accounts) → end < 2 ^ 48 → IsOnTime now a
     → comes_at end a (End processor) ≡ Some time
     → Comes now time end

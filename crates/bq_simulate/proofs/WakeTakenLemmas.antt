@@ -79,6 +79,7 @@ sleeper_stands w a task c h at =
     (ap (λ (o : Option TaskProgress). option_map_or (λ (x : TaskProgress). Some x.task_state) o None) at)
     (h.mirrors.tasks task)
 
+-- once the wake of a task has begun, a hand holds it, and by the accounts it can run
 begin_kept : (d : Discipline) (w v : World) (a : Accounts) (from task : ℕ) (c : TaskProgress)
     (calls : List CounterCall) (r : Reply)
     → AgreesWith w a → from < count_in w → slice_get a.by_task task ≡ Some c → task < length w.lobby
@@ -123,6 +124,7 @@ begin_kept d w v a from task c calls r h low at small step =
       homes = subst (λ n. HaveProcessors n b) (sym count) (homes_task (count_in w) task progress_woken a (λ y was. was) h.homes);
     }
 
+-- once the wake has ended, the task is in the inbox of the processor on which it was placed
 end_kept : (d : Discipline) (w v : World) (a : Accounts) (from to now : ℕ) (calls : List CounterCall) (r : Reply)
     → IsBegun from w a → placed_at r ≡ Some to → WorldStep (by_programs d) w (EndWake from now) calls (Ok r) v
     → IsPlacedAt to v a
@@ -178,6 +180,7 @@ end_kept d w v a from to now calls r h at step =
       homes = subst (λ n. HaveProcessors n a) (sym count) h.homes;
     }
 
+-- once that processor has taken in its inbox, one task has entered, and world and accounts agree
 drain_kept : (d : Discipline) (periods : Periods) (w v : World) (a : Accounts) (to now : ℕ)
     (calls : List CounterCall) (r : Reply)
     → IsPlacedAt to w a → WorldStep (by_programs d) w (Drain to now) calls (Ok r) v
@@ -236,6 +239,7 @@ drain_kept d periods w v a to now calls r h step =
 not_empty : (o : Option Carried) (c : Carried) → o ≡ Some c → is_none o ≡ false
 not_empty o c h = ap is_none h
 
+-- the world takes the event by which that processor takes the task in
 taken_in : (d : Discipline) (periods : Periods) (w : World) (a : Accounts) (to now : ℕ)
     → IsPlacedAt to w a
     → IsTaken d w (Drain to now)
@@ -245,6 +249,7 @@ taken_in d periods w a to now h = record {
   leaves = λ calls r v step. drain_kept d periods w v a to now calls r h step;
 }
 
+-- the world takes the end of a wake that has begun, and then the event that takes the task in
 ended : (d : Discipline) (periods : Periods) (w : World) (a : Accounts) (from now : ℕ)
     → IsBegun from w a → IsTaken d w (EndWake from now) (IsTakenIn d periods a now)
 ended d periods w a from now h = record {

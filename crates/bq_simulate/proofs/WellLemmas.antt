@@ -116,6 +116,7 @@ err-by {P = P} r is weaker =
     let p = err_from_is_err_and r is in
     subst (λ x. IfErr x P) (sym p.1) (weaker p.0 p.2)
 
+-- the fault is that memory ran out
 abbrev IsWant : SimulateFault → Type 0
 IsWant why.OutOfMemory = ⊤
 IsWant fault = ⊥

@@ -197,6 +197,7 @@ from_there w a Waiting home from h low busy = omega (arith, busy_there a from bu
 from_there w a Runnable home from h low none = absurd none
 from_there w a Over home from h low none = absurd none
 
+-- a wake that may come is from one of the processors, and of a task that cannot run:
 woken_from : (w : World) (a : Accounts) (from task : ℕ) → AgreesWith w a → (woken : IsWoken a from task) → from < count_in w
 woken_from w a from task h woken =
     from_there w a woken.progress.task_state woken.progress.home from h (h.homes task woken.progress woken.there) woken.place
@@ -245,6 +246,7 @@ pub record IsIn (periods : Periods) (d e : Driver) (a : Accounts) (to now : ℕ)
   pub one : count_entered reply ≡ 1
   pub agrees : AgreesWith (world_of e) (accounts_entered to (count_entered reply) (runs_now reply) now periods a)
 
+-- where a woken task was placed and taken in, one task has entered, and world and accounts agree
 is_in : (periods : Periods) (d mid e : Driver) (a : Accounts) (from task to now : ℕ) (first more : Reported) (reply : Reply)
     → AgreesWith (world_of d) a → (woken : IsWoken a from task) → PlacesWoken d from task now to first mid
     → DrivesEvent mid (Drain to now) reply more e

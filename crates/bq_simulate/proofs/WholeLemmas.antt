@@ -58,7 +58,7 @@ Proceeds-join takes policies processors kinds most end =
     opened-join takes policies processors kinds (λ n p. AreMet kinds n p most end) (λ n p. Proceeds policies processors kinds n p most end)
     (λ n p b xs ys opens meets. record { opening = xs; met = ys; whole = refl; opens = opens; meets = meets })
 
--- just that many come due
+-- a simulation that opens, and then meets exactly that many things, proceeds by that many
 pub ProceedsBy-join : {S : Type 0} (takes : S → ℕ → TraceEvent → S → Type 0) (policies : List Accepted) (processors : ℕ)
     (kinds : List TaskKind) (count end : ℕ) (x y z : S) (s t u : Simulation)
     → GoesOnBy takes kinds (Opens policies processors kinds) x s y t
@@ -118,6 +118,7 @@ record Begun {S : Type 0} (takes : S → ℕ → TraceEvent → S → Type 0) (A
   leads : DeedsLead w.tasks.items w.machine.seed (periods_of w.machine) d (opening_book w.machine) goes.deeds
       goes.reports.reported t.driver (book_of t goes.after)
 
+-- a new simulation that goes on from its opening does so by deeds with the seed and the periods of its workload
 begun : {S : Type 0} (takes : S → ℕ → TraceEvent → S → Type 0) (b c : S) (Are : By) (w : Workload)
     (d : Driver) (s t : Simulation)
     → IsNew w d s → GoesOnFromBook takes w.tasks.items (Are s.seed s.roster.periods) b s c t
@@ -191,6 +192,7 @@ begins-of takes a b c policies w d s t first begun =
     reported-begun takes a b c (ProceedsIn policies w) w d s t (SimulationBegins policies w) first begun
     (beginning takes a b c (ProceedsIn policies w) policies w d s t first begun begun.are)
 
+-- a bound that 64 bits do not count is cut to the most that they count
 all-of-64-bits : (duration at_once : ℕ) → 2 ^ 64 ≤ (duration + 1) * at_once → min ((duration + 1) * at_once) (2 ^ 64 - 1) ≡ 2 ^ 64 - 1
 all-of-64-bits duration at_once large = omega (arith, large)
 

@@ -218,6 +218,7 @@ since_now now l = record l { since = now }
 abbrev pub counted : ProcessorState → ℕ → List TaskProgress → List TaskProgress
 counted processor_state now cs = option_map_or (λ task. changed_at (run_for (now - processor_state.since)) cs task) processor_state.run cs
 
+-- once the time of the task that runs is counted, only tasks' progress has changed
 charged_by-is : (processor_state : ProcessorState) (now : ℕ) (a : Accounts)
     → runner_charged processor_state now a ≡ both (counted processor_state now a.by_task) a.by_processor
 charged_by-is processor_state now a =
@@ -335,6 +336,7 @@ tick-planned periods p now None a b x y was is plans h =
 tick-planned periods p now (Some time) a b x y was is same h =
     agrees_if_kept periods.end a b x y (Tick p) (is ∙ sym was) (λ low. ap (λ (l : List ℕ). at_place l (1088 + p)) same) h
 
+-- a tick that is put down leaves what is due at every other place
 tick-others : (periods : Periods) (p now : ℕ) (tick : Option ℕ) (x y : List ℕ)
     → PlansTick periods p now tick x y → (k : ℕ) → k < 2048 → k ≢ 1088 + p → at_place y k ≡ at_place x k
 tick-others periods p now None x y plans k few other = plans.others k few other
@@ -350,6 +352,7 @@ look-planned periods p now None a b x y was is same h =
     agrees_if_kept periods.end a b x y (Look p) (is ∙ sym was) (λ low. ap (λ (l : List ℕ). at_place l (1152 + p)) same) h
 look-planned periods p now (Some time) a b x y was is plans h = agrees_if_planned periods.end now b x y (Look p) plans is
 
+-- a look that is put down leaves what is due at every other place
 look-others : (periods : Periods) (p now : ℕ) (look : Option ℕ) (x y : List ℕ)
     → PlansLook periods p now look x y → (k : ℕ) → k < 2048 → k ≢ 1152 + p → at_place y k ≡ at_place x k
 look-others periods p now None x y same k few other = ap (λ (l : List ℕ). at_place l k) same

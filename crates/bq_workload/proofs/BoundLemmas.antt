@@ -14,9 +14,11 @@ capped_at m zero b (inr high) = omega arith
 capped_at m (suc a) b (inr high) =
     let e : min b m ≡ m = omega (arith, high) in ap (λ x. min (suc a * x) m) e ∙ omega (arith, high, mul-le-mul_left a high)
 
+-- the same, whether or not that factor is stopped
 capped_product : (m a b : ℕ) → min (a * min b m) m ≡ min (a * b) m
 capped_product m a b = capped_at m a b (cases_lt b m)
 
+-- to stop both factors before changes nothing of a product that is stopped
 capped_factors : (m a b : ℕ) → min (min a m * min b m) m ≡ min (a * b) m
 capped_factors m a b =
     capped_product m (min a m) b ∙ ap (λ x. min x m) (mul_comm (min a m) b) ∙ capped_product m b a

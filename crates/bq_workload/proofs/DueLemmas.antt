@@ -132,6 +132,7 @@ timer-planned end task timer Waiting b x y is plan = agrees_if_dropped end b x y
 timer-planned end task timer Runnable b x y is plan = agrees_if_dropped end b x y (Wake task) plan is
 timer-planned end task timer Over b x y is plan = agrees_if_dropped end b x y (Wake task) plan is
 
+-- a timer that is put down, or dropped, leaves what is due at every other place
 timer-others : (end task timer : ℕ) (task_state : TaskState) (x y : List ℕ)
     → PlansTimer end task task_state timer x y → (k : ℕ) → k < 2048 → k ≢ 64 + task
     → at_place y k ≡ at_place x k
@@ -140,6 +141,7 @@ timer-others end task timer Waiting x y plan k few other = plan.others k few oth
 timer-others end task timer Runnable x y plan k few other = plan.others k few other
 timer-others end task timer Over x y plan k few other = plan.others k few other
 
+-- a task whose timer is put down, or dropped, has a number below the most tasks
 timer-there : (end task timer : ℕ) (task_state : TaskState) (x y : List ℕ) → PlansTimer end task task_state timer x y → task < 1024
 timer-there end task timer Asleep x y plan = plan.there
 timer-there end task timer Waiting x y plan = plan.there
@@ -363,6 +365,7 @@ place-low (Look p) h = omega (arith, h)
 abbrev Stands : ℕ → Due → Type 0
 Stands n due = IsDue due × (due_place due ≡ n)
 
+-- the thing that the bounds of a place choose is due, and has that place
 stands-by : (n : ℕ) (due : Due) (a b c d : Bool) → nat_lt n 64 ≡ a → nat_lt n 1088 ≡ b → nat_lt n 1152 ≡ c → nat_lt n 1216 ≡ d
     → (if a then Some (End n) else if b then Some (Wake (n - 64)) else if c then Some (Tick (n - 1088))
     else if d then Some (Look (n - 1152)) else None)
@@ -383,6 +386,7 @@ stands-by n due false false false true e f g h is =
     subst (Stands n) (same_Some (Look (n - 1152)) due is) (omega (arith, low, high), omega (arith, low, high))
 stands-by n due false false false false e f g h is = absurd (none-some due is)
 
+-- the thing at a place is due, and has that place
 stands : (n : ℕ) (due : Due) → due_at n ≡ Some due → Stands n due
 stands n due is = stands-by n due (nat_lt n 64) (nat_lt n 1088) (nat_lt n 1152) (nat_lt n 1216) refl refl refl refl is
 
@@ -431,11 +435,13 @@ at-replicate zero k x y h = absurd (none-some y h)
 at-replicate (suc n) zero x y h = (omega arith, same_Some x y h)
 at-replicate (suc n) (suc k) x y h = let r = at-replicate n k x y h in (omega (arith, r.0), r.1)
 
+-- past the last place of a list of equals nothing stands
 past-replicate : {A : Type 0} (count k : ℕ) (x : A) → count ≤ k → slice_get (replicate count x) k ≡ None
 past-replicate zero k x h = refl
 past-replicate (suc n) zero x h = absurd (omega arith)
 past-replicate (suc n) (suc k) x h = past-replicate n k x (omega arith)
 
+-- at each place of a list of equals stands the same
 there-replicate : {A : Type 0} (count k : ℕ) (x : A) → k < count → slice_get (replicate count x) k ≡ Some x
 there-replicate zero k x h = absurd (omega arith)
 there-replicate (suc n) zero x h = refl
@@ -505,6 +511,7 @@ look-after count time q high =
     ap (λ (b : Bool). if b && nat_lt (1152 + q) (1152 + count) then time else None) (le-leb 1152 (1152 + q) (omega arith))
     ∙ ap (λ (b : Bool). if b then time else None) (le-ltb (1152 + q) (1152 + count) (omega arith))
 
+-- each of this many processors looks at that time at the opening
 look-within : (count : ℕ) (time : Option ℕ) (q : ℕ) → q < count → look_of count time (1152 + q) ≡ time
 look-within count time q low =
     ap (λ (b : Bool). if b && nat_lt (1152 + q) (1152 + count) then time else None) (le-leb 1152 (1152 + q) (omega arith))

@@ -16,6 +16,7 @@ none-more mask count before next lower low =
     (λ (h : count ≤ lower). let same : lower ≡ count = omega (arith, low, h) in subst (λ (n : ℕ). allows mask n ≡ false) (sym same) next)
     (cases_lt lower count)
 
+-- where a mask allows no processor of a range, no search of that range finds one
 none-from : (mask first count : ℕ) → ((p : ℕ) → first ≤ p → p < first + count → allows mask p ≡ false)
     → list_any (allows mask) (range_with_len first count) ≡ false
 none-from mask first zero h = refl
@@ -28,6 +29,7 @@ pub none-allowed : (mask processors : ℕ) → ((lower : ℕ) → lower < proces
     → allows_one processors mask ≡ false
 none-allowed mask processors h = none-from mask 0 processors (λ p low high. h p (omega (arith, high)))
 
+-- where there is a first processor that a mask allows, the mask allows one
 one-allowed : (processors mask first : ℕ) → IsFirstAllowed processors mask first → allows_one processors mask ≡ true
 one-allowed processors mask first h =
     let at : get_or (range_with_len 0 processors) first 0 ≡ first = get_or-range_with_len 0 processors first 0 h.within ∙ omega arith in

@@ -22,21 +22,26 @@ pub first-later : (xs ys zs : List Unsound) → None ≡ slice_get xs 0 → slic
 first-later [] ys zs h = refl
 first-later (x ∷ xs) ys zs h = absurd (false≢true (ap (λ (o : Option Unsound). is_some o) h))
 
+-- where there is no first flaw there is no flaw
 no_flaws : (flaws : List Unsound) → slice_get flaws 0 ≡ None → flaws ≡ []
 no_flaws [] h = refl
 no_flaws (x ∷ xs) h = absurd (false≢true (sym (ap (λ (o : Option Unsound). is_some o) h)))
 
+-- where two lists together are empty, each is empty
 no_parts : (xs ys : List Unsound) → xs ++ ys ≡ [] → (xs ≡ []) × (ys ≡ [])
 no_parts [] ys h = (refl, h)
 no_parts (x ∷ xs) ys h = cc
 
+-- what holds, where its flaw is not found
 holds_unless : (b : Bool) (flaw : Unsound) → unless b flaw ≡ [] → b ≡ true
 holds_unless true flaw h = refl
 holds_unless false flaw h = cc
 
+-- a name that is allowed has at most 1024 bytes
 short_name : (kind : TaskKind) → has_name kind ≡ true → length (string_bytes kind.name) ≤ 1024
 short_name kind h = grind (arith, nat_tests)
 
+-- where kinds have no flaw, each has a name of at most 1024 bytes
 kinds_named : (processors kinds number : ℕ) (ks : List TaskKind) → flaws_of_kinds processors kinds number ks ≡ []
     → AllByRecursion (λ (kind : TaskKind). length (string_bytes kind.name) ≤ 1024) ks
 kinds_named processors kinds number [] h = tt

@@ -13,6 +13,7 @@ use Rattle.bq_words.specs.declared.processor_count.ProcessorCount.{ProcessorCoun
 use Rattle.bq_words.specs.declared.processor_count.ProcessorCount.TheVariants.{One, Two, Four, Eight, Sixteen, ThirtyTwo, SixtyFour}
 use Rattle.bq_workload_file.specs.Workloads.{all_of}
 
+-- where a mask allows no processor of a range, it has no bit there
 none_allowed : (mask first count : ℕ) → list_any (allows mask) (range_with_len first count) ≡ false → mask / 2 ^ first % 2 ^ count ≡ 0
 none_allowed mask first zero h = omega arith
 none_allowed mask first (suc count) h =

@@ -8,6 +8,7 @@ use Rattle.std.proofs.lemmas.List.{length-reverse, length-take, reverse-append}
 use Rattle.std.proofs.lemmas.List.Sums.{count_by-le-length, sum_by-append}
 use Rattle.bq_workload_file.specs.Positions.{column_after, is_line_end, last_line, line_after}
 
+-- one more byte is counted if it passes the test
 counted : (p : ℕ → Bool) (xs : List ℕ) (b : ℕ) → count_by p (xs ++ b ∷ []) ≡ count_by p xs + cond (p b) 1 0
 counted p xs b =
     let both : count_by p (xs ++ b ∷ []) ≡ count_by p xs + (0 + cond (p b) 1 0) =
@@ -43,6 +44,7 @@ front false b rest e =
     ap (λ (t : Bool). count_by is_char_start (take (cond (not t) (1 + most) 0) (b ∷ rest)) + 1) e
     ∙ ap (λ (n : ℕ). count_by is_char_start (take n (b ∷ rest)) + 1) next ∙ omega (arith, first)
 
+-- the column after one more byte, by whether that byte ends the line
 column_by : (before : List ℕ) (b : ℕ) (t : Bool) → is_line_end b ≡ t
     → column_after (before ++ b ∷ []) ≡ cond t 1 (column_after before + cond (is_char_start b) 1 0)
 column_by before b t e =

@@ -32,9 +32,11 @@ use Rattle.bq_workload_file.specs.Workloads.{AreKinds, AreTableNames, HasNumbers
 use Rattle.bq_workload_file.proofs.EachLemmas.{each-at, each-cond, each-if, each-map, each-of, each-then, each-unless}
 use Rattle.bq_workload_file.proofs.MaskLemmas.{all-allowed, one-allowed}
 
+-- a number is no less than the least, and no more than the greatest
 abbrev IsIn : ℕ → ℕ → ℕ → Type 0
 IsIn least greatest n = (nat_le least n && nat_le n greatest) ≡ true
 
+-- a number or a duration that is read in a range is in that range:
 within_each : (least greatest n : ℕ) → IfSome (read_within least greatest n) (IsIn least greatest)
 within_each least greatest n = each-if (nat_le least n && nat_le n greatest) n (IsIn least greatest) (λ e. e)
 
@@ -47,11 +49,13 @@ number_each : (least greatest : ℕ) (d : Data) → IfSome (number_in least grea
 number_each least greatest d =
     each-of (option_and_then whole (as_integer d)) (read_within least greatest) (IsIn least greatest) (within_each least greatest)
 
+-- what holds of the default, and of each value that is read, holds of the value of a key
 default_each : {A : Type 0} (a : A) (read : Data → Option A) (Q : A → Type 0) (o : Option Data)
     → Q a → ((d : Data) → IfSome (read d) Q) → IfSome (or_default a read o) Q
 default_each {A} a read Q None h k = h
 default_each {A} a read Q (Some d) h k = k d
 
+-- the duration of a key is in its range if the default is
 span_read : (least greatest default : ℕ) (o : Option Data) (n : ℕ)
     → IsIn least greatest default → or_default default (span_in least greatest) o ≡ Some n
     → IsIn least greatest n
@@ -59,10 +63,12 @@ span_read least greatest default o n h =
     each-at (or_default default (span_in least greatest) o) n (IsIn least greatest)
     (default_each default (span_in least greatest) (IsIn least greatest) o h (span_each least greatest))
 
+-- a duration that is changed, or kept, is in the range of durations if both are
 changed_long : (o : Option ℕ) (n : ℕ) → IfSome o (λ d. is_long d ≡ true) → is_long n ≡ true → is_long (unwrap_or o n) ≡ true
 changed_long None n h k = k
 changed_long (Some d) n h k = h
 
+-- the machine that a document describes has times that can be counted, also with a changed duration
 machine_sound : (c : Changes) (ms : Members) (s : Setup) → IfSome c.duration (λ d. is_long d ≡ true) → IsSetup ms s
     → has_times (changed_by c s) ≡ true
 machine_sound c ms s long is =
@@ -75,9 +81,11 @@ machine_sound c ms s long is =
     and_from _ _ (and_from _ _ (and_from _ _ (changed_long c.duration s.duration long duration) tick) balance)
     (and_parts (nat_le 0 s.migration_cost) (nat_le s.migration_cost longest) cost).1
 
+-- a name has at most 1024 bytes
 abbrev IsName : List ℕ → Type 0
 IsName name = nat_le (length name) 1024 ≡ true
 
+-- each name that is read is short enough, each nice value is one, and each number of loops is one at least:
 name_each : (d : Data) → IfSome (read_name d) IsName
 name_each d =
     each-of (as_str d) _ IsName (λ (s : List ℕ).
@@ -93,6 +101,7 @@ loops_each (Some d) =
     each-map (number_in 1 9223372036854775807 d) (IsIn 1 9223372036854775807) (λ n. Some n) (λ l. goes_round l ≡ true)
     (number_each 1 9223372036854775807 d) (λ n e. (and_parts (nat_le 1 n) (nat_le n 9223372036854775807) e).0)
 
+-- the numbers of a kind that a table describes are in their ranges
 numbers_sound : (all : ℕ) (ms : Members) (k : TaskKind) → HasNumbers all ms k.count k.nice k.mask k.slice k.start k.loops
     → has_numbers k ≡ true
 numbers_sound all ms k is =
@@ -113,9 +122,11 @@ numbers_sound all ms k is =
     (loops_each (get_member (codes "loops") ms)) is.loops_is in
     and_from _ _ (and_from _ _ (and_from _ _ (and_from _ _ (and_from _ _ counts.0 nice) slices.0) slices.1) starts.1) loops
 
+-- a mask allows one of a machine's processors
 abbrev Allows : ProcessorCount → ℕ → Type 0
 Allows size mask = allows_one (processors_in size) mask ≡ true
 
+-- each mask that is read, and the default, allows one of the machine's processors:
 mask_each : (size : ProcessorCount) (d : Data) → IfSome (read_mask (all_of size) d) (Allows size)
 mask_each size d =
     each-of (option_and_then processors_of (as_str d)) (some_of (all_of size)) (Allows size)
@@ -127,9 +138,11 @@ mask_sound size o mask =
     each-at (or_default (all_of size) (read_mask (all_of size)) o) mask (Allows size)
     (default_each (all_of size) (read_mask (all_of size)) (Allows size) o (all-allowed size) (mask_each size))
 
+-- the numbers of a length are in their ranges
 abbrev IsLength : Length → Type 0
 IsLength l = is_length l ≡ true
 
+-- each length that is read has numbers in their ranges, be it fixed, uniform or exponential:
 ends_each : (items : Items) → IfSome (ends_of items) IsLength
 ends_each no_items = tt
 ends_each (item first no_items) = tt
@@ -154,9 +167,11 @@ length_each d = of (as_table d)
     of None = each-map (read_time d) (IsIn 1 longest) (λ n. Fixed n) IsLength (span_each 1 longest d) (λ n e. e)
     of (Some ms) = each-of (only_of ms) drawn_by IsLength drawn_each
 
+-- an action has a length in its range, or wakes one of this many kinds
 abbrev IsAction : ℕ → Action → Type 0
 IsAction kinds a = is_action kinds a ≡ true
 
+-- each wait that is read is an action, and each name that is found has a place among the names:
 waits_each : (kinds : ℕ) (b : Bool) → IfSome (waits b) (IsAction kinds)
 waits_each kinds true = refl
 waits_each kinds false = tt
@@ -164,6 +179,7 @@ waits_each kinds false = tt
 named_each : (names : List (String Global)) (name : List ℕ) → IfSome (named_at names name) (λ i. nat_lt i (length names) ≡ true)
 named_each names name = each-if _ _ (λ i. nat_lt i (length names) ≡ true) (λ e. e)
 
+-- each action that is read has a length in its range, or wakes one of the kinds, by its entry or by its table:
 entry_each : (names : List (String Global)) (key : List ℕ) (d : Data) → IfSome (action_of_entry names key d) (IsAction (length names))
 entry_each names key d =
     let Q : Action → Type 0 = IsAction (length names) in
@@ -180,10 +196,12 @@ action_each names d =
     each-of (option_and_then only_of (as_table d)) _ (IsAction (length names))
     (λ (entry : List ℕ × Data). entry_each names entry.0 entry.1)
 
+-- what holds of some items and of one more holds of all of them
 all_more : {A : Type 0} (P : A → Type 0) (xs : List A) (x : A) → AllByRecursion P xs → P x → AllByRecursion P (xs ++ x ∷ [])
 all_more {A} P [] x h p = (p, tt)
 all_more {A} P (y ∷ ys) x h p = (h.0, all_more P ys x h.1 p)
 
+-- all actions of a kind are such, in a list, as a run and a sleep, or either:
 actions_each : (names : List (String Global)) (done : List Action) (items : Items)
     → AllByRecursion (IsAction (length names)) done
     → IfSome (actions_with names done items) (AllByRecursion (IsAction (length names)))
@@ -210,12 +228,15 @@ doing_each names (Some list) None None =
 doing_each names (Some list) None (Some sleep) = tt
 doing_each names (Some list) (Some run) sleep = tt
 
+-- what holds has no flaw
 no_flaw : (b : Bool) (flaw : Unsound) → b ≡ true → unless b flaw ≡ []
 no_flaw b flaw e = ap (λ (t : Bool). unless t flaw) e
 
+-- two parts without flaws have none together
 no_flaws : (xs ys : List Unsound) → xs ≡ [] → ys ≡ [] → xs ++ ys ≡ []
 no_flaws xs ys e f = ap (λ (l : List Unsound). l ++ ys) e ∙ f
 
+-- actions with lengths in their ranges, and wakes of kinds that there are, have no flaw
 actions_sound : (kinds number place : ℕ) (actions : List Action)
     → AllByRecursion (IsAction kinds) actions → flaws_of_actions kinds number place actions ≡ []
 actions_sound kinds number place [] h = refl
@@ -223,6 +244,7 @@ actions_sound kinds number place (a ∷ actions) h =
     no_flaws _ _ (no_flaw (is_action kinds a) (flaw.Action number place) h.0)
     (actions_sound kinds number (place + 1) actions h.1)
 
+-- a kind that a table describes has no flaw, and so have several:
 kind_sound : (names : List (String Global)) (size : ProcessorCount) (ms : Members) (k : TaskKind) (number : ℕ)
     → IsKind names (all_of size) ms k → flaws_of_kind (processors_in size) (length names) number k ≡ []
 kind_sound names size ms k number is =
@@ -253,6 +275,7 @@ kinds_sound names size (item d ds) [] number h = absurd h
 kinds_sound names size (item d ds) (k ∷ ks) number h =
     no_flaws _ _ (kind_sound names size h.0.0 k number h.0.2) (kinds_sound names size ds ks (number + 1) h.1)
 
+-- there are as many names as kinds
 as_many : (names all_names : List (String Global)) (all : ℕ) (items : Items) (ks : List TaskKind)
     → AreTableNames items names → AreKinds all_names all items ks → length names ≡ length ks
 as_many [] all_names all no_items [] n h = refl
@@ -262,6 +285,7 @@ as_many [] all_names all (item d ds) ks n h = absurd n
 as_many (name ∷ names) all_names all (item d ds) [] n h = absurd h
 as_many (name ∷ names) all_names all (item d ds) (k ∷ ks) n h = ap suc (as_many names all_names all ds ks n.1 h.1)
 
+-- where something holds of a value that is there, there is a value of which it holds
 of_some : {A : Type 0} (o : Option A) (P : A → Type 0) → IsSomeAnd o P → (a : A) × P a
 of_some {A} None P h = absurd h
 of_some {A} (Some a) P h = (a, h)
