@@ -24,6 +24,7 @@ abbrev pub slice_seen : Figures → Option Sight → Option Slice
 slice_seen s None = None
 slice_seen s (Some x) = slice_at x.processor (processor_in_figures s x.processor) x.now
 
+-- the slice that is reported of an event is the one that figures show of its sight, by cases:
 seen-performed : (s : Figures) (e : Event) (r : Reply) → (report_of_answer s e r).slice ≡ slice_seen s (sight e r)
 seen-performed s (EndWake processor now) (Placed task to by steps) = refl
 seen-performed s (Drain processor now) (Drained count run by steps) = refl
