@@ -67,6 +67,7 @@ ran_by d p nows u (Some a) e f = (a, e)
 
 -- The task that runs, as it stands before a charge
 
+-- what is known of the running task is what this task has, and the least v that waits in the queue
 record Stands (queue : List Task) (t : Task) (s : RunningTask) : Type 0 where
   v : s.v ≡ t.v
   weight : s.weight ≡ t.weight

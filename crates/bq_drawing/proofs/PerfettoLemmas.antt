@@ -1,4 +1,4 @@
--- The events of a trace, one behind another.
+-- The events of a trace for Perfetto, one behind another.
 use Rattle.std.proofs.Common.{◌≡◌, ℕ, ◌+◌, ◌-◌, ◌*◌, List, ◌++◌, Option, Some, refl, sym, ap, ◌∙◌, subst, append_assoc}
 use Rattle.std.specs.Prelude.{◌==◌, codes, option_map}
 use Rattle.std.specs.Fmt.{decimal}

@@ -1,4 +1,4 @@
--- Parts of a report, one behind another.
+-- The parts of a report, as text and as JSON, one behind another.
 use Rattle.std.proofs.Common.{◌≡◌, ℕ, ◌+◌, ◌<◌, Bool, true, false, true≢false, IsTrue, List, [], ◌∷◌, ◌++◌, ◌↔◌, refl, ap, sym, ◌∙◌, subst, append_assoc, append-nil, add-one, arith, inl, inr, Option, Some, None, ℤ, pos, negsuc, ◌||◌, ◌≤◌, nat_eq}
 use Rattle.std.specs.Prelude.{codes, IsSorted, IsPermutation}
 use Rattle.std.specs.Ordering.{nat_cmp}

@@ -40,7 +40,7 @@ Pairs j running running' stop start =
     option_to_list running ++ filter (is_start_at j) (option_to_list start)
     ≡ map (λ (sp : Stop). sp.start) (filter (is_stop_at j) (option_to_list stop)) ++ option_to_list running'
 
--- where nothing starts or stops at a processor and the same runs on, it pairs
+-- where nothing starts or stops at a processor and what runs stays, starts and stops pair there
 pairs-none : (j : ℕ) (running running' : Option Start) (stop : Option Stop) (start : Option Start)
     → filter (is_stop_at j) (option_to_list stop) ≡ [] → filter (is_start_at j) (option_to_list start) ≡ []
     → running' ≡ running

@@ -1,4 +1,4 @@
--- What is reported of each moment is its slice, and the times add up.
+-- The slice that is reported of each moment is the one that it ends, by who runs in its history.
 use Rattle.std.proofs.Common.{◌≡◌, ℕ, Bool, true, false, ◌∷◌, ◌++◌, length, Option, Some, None, Result, Ok, Err, refl, sym, ap, ◌∙◌, cond}
 use Rattle.std.specs.Prelude.{option_to_list}
 use Rattle.std.specs.Option.{option_map}

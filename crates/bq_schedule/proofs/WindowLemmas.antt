@@ -42,7 +42,7 @@ length-le-rise processor from to None b e h = omega arith
 length-le-rise processor from to (Some start) true e h = rw e (omega arith)
 length-le-rise processor from to (Some start) false e h = rw e (omega arith)
 
--- a reading with a slice that fits in what the clock rose leaves a processor so, also if it is the first
+-- after a reading whose slice is no longer than the clock rose, no more ran since the first reading than the clock rose
 begun-read_as : (p : ProcessorFigures) (to : ℕ) (s : Option Slice) (first : Option ℕ)
     → p.first ≡ first → p.last + slice_length s ≤ to → (p.running ≡ None → slice_length s ≡ 0)
     → IsFilled first p.last p.busy p.running
