@@ -11,7 +11,7 @@ use Rattle.bq_report.specs.declared.extent.Extent.{Extent}
 use Rattle.bq_report.specs.Windows.{ShowsProcessor}
 use Rattle.bq_report.specs.Extents.{IsFirstReading, IsLastReading, SpansReadings}
 
--- these are the earliest first and the latest last reading of the first processors, this many,, or the ends of time where none was read
+-- the earliest first and the latest last reading of the first processors, this many, or the ends of time where none was read
 pub record Read (w : Window) (s : Figures) (count first last : ℕ) : Type 0 where
   pub is_first : (first ≡ 2 ^ 64 - 1) ⊎ IsFirstReading w s first
   pub is_last : (last ≡ 0) ⊎ IsLastReading w s last

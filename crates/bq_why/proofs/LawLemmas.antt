@@ -50,7 +50,7 @@ find_found : (p : Task → Bool) (xs : List Task) → IfSome (find p xs) (λ u. 
 find_found p [] = tt
 find_found p (x ∷ xs) = found_by_test (p x) p x xs refl (find_found p xs)
 
--- of two tasks that only the id tells apart, the one that does not go first has the greater id, under either rule:
+-- of two tasks that only the id tells apart, the one that does not go first has the greater id, under either discipline:
 lower_under_cfs : (w s : ℕ) (t u : Task) → is_tied Cfs w s t u ≡ true → runs_before u t ≡ false → t.id < u.id
 lower_under_cfs w s t u h k = grind (arith, nat_tests)
 
