@@ -27,6 +27,7 @@ use Rattle.bq_bounds.proofs.OwedLemmas.{eevdf_owes_within}
 
 -- What a stretch keeps
 
+-- steps leave how far the furthest task was ahead when the stretch began: one step, and any:
 ahead_by : (p : Running) (x : ProcessorStep) (s : Stretch) → (stretch_by p x s).ahead ≡ s.ahead
 ahead_by p (Pass now) s = refl
 ahead_by p Decide s = refl
@@ -38,6 +39,7 @@ ahead_stays : (p : Running) (ss : List ProcessorStep) (s : Stretch) → (stretch
 ahead_stays p [] s = refl
 ahead_stays p (x ∷ ss) s = ahead_stays (stepped eevdf p x) ss (stretch_by p x s) ∙ ahead_by p x s
 
+-- steps never lessen the greatest rise between two decisions: one step, and any:
 most_by : (p : Running) (x : ProcessorStep) (s : Stretch) → s.most ≤ (stretch_by p x s).most
 most_by p (Pass now) s = omega arith
 most_by p Decide s = omega arith
@@ -51,10 +53,12 @@ most_grows p (x ∷ ss) s = omega (arith, most_by p x s, most_grows (stepped eev
 
 -- The most of it bounds how far the clock rises between two decisions
 
+-- the rise since a decision, and what the clock may still rise, stay below 2^48 by a reading
 room_left : (n last now : ℕ) → n + (2 ^ 48 - 1 - last) ≤ 2 ^ 48 - 1
     → (n + (reading last now - last)) + (2 ^ 48 - 1 - reading last now) ≤ 2 ^ 48 - 1
 room_left n last now h = omega arith
 
+-- steps in which none comes or goes decide within the greatest rise of their stretch
 decides_within : (p : Running) (ss : List ProcessorStep) (s : Stretch) (n r : ℕ)
     → s.since ≡ n → n ≤ s.most → n + (2 ^ 48 - 1 - p.last) ≤ 2 ^ 48 - 1 → KeepsAll ss → (stretch_after p ss s).most ≤ r
     → DecidesWithin r eevdf n p ss
@@ -75,6 +79,7 @@ decides_within p (Leave id ∷ ss) s n r e le room k h = absurd k.0
 
 -- A processor where none comes or goes
 
+-- where none comes or goes, none enters that is not new
 enters : (p : Running) (x : ProcessorStep) → KeepsTasks x → EntersNew p x
 enters p (Pass now) k = tt
 enters p Decide k = tt
@@ -82,12 +87,14 @@ enters p (Enter t) k = absurd k
 enters p (Leave id) k = tt
 enters p Mark k = tt
 
+-- steps in which none comes or goes leave a processor well formed
 formed_after : (p : Running) (ss : List ProcessorStep) → IsWellFormed p → KeepsAll ss → IsWellFormed (after_steps eevdf p ss)
 formed_after p [] w k = w
 formed_after p (x ∷ ss) w k = formed_after (stepped eevdf p x) ss (well_formed_stepped eevdf p x w (enters p x k.0)) k.1
 
 -- The most that is owed is what one is owed
 
+-- the greatest of charges that keep their bounds keeps its own, of one and another, and of many:
 joined : (c : Charge) (o : Option Charge) → KeepsItsBound c → IfSome o KeepsItsBound → KeepsItsBound (option_map_or (greater (Some c)) o c)
 joined c None h k = h
 joined c (Some d) h k = greater_within (Some c) d h k
@@ -98,14 +105,17 @@ most_within f [] h = tt
 most_within f (t ∷ xs) h =
     joined (f t) (most_owed_by f xs) (h t (0, omega arith, refl)) (most_within f xs (λ u c. h u (Contains-later t u xs c)))
 
+-- numbers in order are in order when both are held below 2^64
 held : (x y z : ℕ) → x ≤ y → z ≡ y → min x (2 ^ 64 - 1) ≤ min z (2 ^ 64 - 1)
 held x y z h e = omega arith
 
+-- what a task is owed keeps its bound if it is no more than a task may be owed in this stretch
 lag_bound : (s : Stretch) (a mean n W : ℕ) (t : Task) → s.ahead ≡ a → owed mean t ≤ owed_at_most a s.most n W t.weight
     → KeepsItsBound (lag_by s mean n W t)
 lag_bound s a mean n W t e h =
     held (owed mean t) (owed_at_most a s.most n W t.weight) (owed_at_most s.ahead s.most n W t.weight) h (ap (λ x. owed_at_most x s.most n W t.weight) e)
 
+-- after steps in which none comes or goes, what is owed most keeps its bound
 most_keeps : (p : Running) (ss : List ProcessorStep) → AreTasksSound p → KeepsAll ss
     → IfSome (most_owed (stretch_after p ss (beginning (present_at p))) (present_at (after_steps eevdf p ss))) KeepsItsBound
 most_keeps p ss sound k =
@@ -121,6 +131,7 @@ most_keeps p ss sound k =
 
 -- More steps
 
+-- some steps and then more are all of them in turn: at a processor, in a stretch, and if none comes or goes:
 after_more : (p : Running) (ss more : List ProcessorStep) → after_steps eevdf p (ss ++ more) ≡ after_steps eevdf (after_steps eevdf p ss) more
 after_more p [] more = refl
 after_more p (x ∷ ss) more = after_more (stepped eevdf p x) ss more
@@ -145,11 +156,13 @@ most_keeps_more p ss more sound k h =
 
 -- The lags
 
+-- the greatest that is kept still keeps its bound with one more charge that does, or with none
 owing_within : (o : Option Charge) (l : Lags) → IfSome l.greatest KeepsItsBound → IfSome o KeepsItsBound
     → IfSome (owing o l).greatest KeepsItsBound
 owing_within None l h k = h
 owing_within (Some c) l h k = greater_within l.greatest c h k
 
+-- lags with which a stretch goes on are those of its steps, if what is owed most keeps its bound
 gone_within : (c : Effect) (rise : ℕ) (xs : List Task) (s : Stretch) (p : Running) (ss : List ProcessorStep) (l : Lags)
     → stretch_after p ss (beginning (present_at p)) ≡ decided_in c (stretched rise s) → IfSome l.greatest KeepsItsBound
     → IfSome (most_owed (stretched rise s) xs) KeepsItsBound
@@ -157,6 +170,7 @@ gone_within : (c : Effect) (rise : ℕ) (xs : List Task) (s : Stretch) (p : Runn
 gone_within c rise xs s p ss l e h k =
     record { stretch = ap (λ (z : Stretch). Some z) (sym e); greatest = owing_within (most_owed (stretched rise s) xs) l h k }
 
+-- a reading leaves lags that are those of the processor's steps, and so does a reading with a decision:
 passes : (p : Running) (ss : List ProcessorStep) (now : ℕ) (l : Lags) → AreTasksSound p → KeepsAll ss → AreLagsOf p ss l
     → (let q = after_steps eevdf p ss in
     AreLagsOf p (ss ++ Pass now ∷ []) (lags_after Passes (rise q now) (present_at (stepped eevdf q (Pass now))) l))

@@ -56,6 +56,7 @@ none_runs : (d : Discipline) (p : Running) (nows : List ℕ) → p.current ≡ N
 none_runs d p [] e = e
 none_runs d p (n ∷ nows) e = none_runs d (charge d p n) nows (ap (option_map (λ (t : Task). charged d t (reading p.last n - p.last))) e)
 
+-- a task that runs after readings means that one ran before them:
 none_ran : (d : Discipline) (p : Running) (nows : List ℕ) (u : Task) → p.current ≡ None → (after_steps d p (map Pass nows)).current ≡ Some u → ⊥
 none_ran d p nows u e f = let none = none_runs d p nows e in cc
 
@@ -66,16 +67,19 @@ ran_by d p nows u (Some a) e f = (a, e)
 
 -- The task that runs, as it stands before a charge
 
+-- what is known of the running task is what this task has, and the least v that waits in the queue
 record Stands (queue : List Task) (t : Task) (s : RunningTask) : Type 0 where
   v : s.v ≡ t.v
   weight : s.weight ≡ t.weight
   least : s.least ≡ least_waiting queue
 
+-- where a running task is known, a task runs there, and it stands as known
 stands_by : (o : Option Task) (queue : List Task) (s : RunningTask)
     → IsRunningTask o queue (Some s) → (t : Task) × (o ≡ Some t) × Stands queue t s
 stands_by None queue s h = absurd h
 stands_by (Some t) queue s h = (t, refl, record { v = h.0; weight = h.1; least = h.2 })
 
+-- a task that waits is found by its id among those that are present
 waits_by : (q : List Task) (o : Option Task) (b : Task) → HasDistinctIds (present o q) → Contains q b → find_task b.id (present o q) ≡ Some b
 waits_by q None b d c = find_task-Contains q b c.0 d c.1 c.2
 waits_by q (Some a) b d c = find_task-Contains (a ∷ q) b (suc c.0) d (let k = c.1 in omega arith) c.2
@@ -91,6 +95,7 @@ record Runs (d : Discipline) (p : Running) (nows : List ℕ) (now : ℕ) (s : Ru
   runs : (runs_on d p (nows ++ now ∷ [])).current ≡ Some (charged d task (rise (runs_on d p nows) now))
   waiting : (b : Task) → Contains (runs_on d p nows).queue b → task_at b.id p ≡ Some b
 
+-- what is known of the running task is so at a sound processor, after a decision and some readings
 runs_by : (d : Discipline) (p : Running) (nows : List ℕ) (now : ℕ) (s : RunningTask)
     → AreTasksSound p → IsRunningTask (runs_on d p nows).current (runs_on d p nows).queue (Some s)
     → Runs d p nows now s
@@ -118,6 +123,7 @@ runs_by d p nows now s sound h =
 
 -- The measure
 
+-- a task that comes no further than the allowance beyond a base makes a charge that keeps its bound:
 near_bound : (base allowance v r w W since : ℕ) → w ≡ W → advance_of v r w ≤ base + (allowance + vdelta_of since W)
     → KeepsItsBound (charge_from base allowance v w r since)
 near_bound base allowance v r w W since e h = let same = ap (λ n. vdelta_of since n) e in omega (arith, h, same)
@@ -127,11 +133,13 @@ standing_bound : (queue : List Task) (base allowance r W since : ℕ) (s : Runni
     → KeepsItsBound (charge_from base allowance s.v s.weight r since)
 standing_bound queue base allowance r W since s u st e h = rw (st.v, st.weight) (near_bound base allowance u.v r u.weight W since e h)
 
+-- if the charge against each waiting task keeps its bound, so does the charge against the least of them
 least_by : (f : ℕ → Charge) (queue : List Task) → ((b : Task) → Contains queue b → KeepsItsBound (f b.v))
     → IfSome (option_map f (least_waiting queue)) KeepsItsBound
 least_by f [] h = tt
 least_by f (b ∷ queue) h = h b (0, omega arith, refl)
 
+-- under CFS no measure of a charge passes its bound
 cfs_measures : MeasureWithin Cfs cfs
 cfs_measures p nows now s sound h =
     let q = runs_on cfs p nows in
@@ -149,6 +157,7 @@ cfs_measures p nows now s sound h =
     standing_bound q.queue b.v 1000000 r a.weight since s u known.stands near.0 near.1 in
     subst (λ o. IfSome (option_map f o) KeepsItsBound) (sym known.stands.least) (least_by f q.queue each)
 
+-- under EEVDF the task that runs is ahead of the mean by no more than the rise since the decision takes at its weight
 eevdf_near : (p : Running) (nows : List ℕ) (now : ℕ) (a u : Task)
     → HasDistinctIds (present_at p) → IsWeight a.weight → a.v ≤ 2 ^ 62 → (stepped eevdf p Decide).current ≡ Some a
     → (runs_on eevdf p (nows ++ now ∷ [])).current ≡ Some u
@@ -158,6 +167,7 @@ eevdf_near p [] now a u distinct weight ends began runs = eevdf_stays_near p now
 eevdf_near p (n ∷ nows) now a u distinct weight ends began runs =
     eevdf_stays_near p n (nows ++ now ∷ []) a u distinct weight ends began runs
 
+-- under EEVDF no measure of a charge passes its bound
 eevdf_measures : MeasureWithin Eevdf eevdf
 eevdf_measures p nows now s sound h =
     let q = runs_on eevdf p nows in
@@ -177,6 +187,7 @@ measures_within = record { cfs = cfs_measures; eevdf = eevdf_measures }
 
 -- A watch
 
+-- of two charges that keep their bounds, either does
 greater_by : (c g : Charge) (b : Bool) → KeepsItsBound g → KeepsItsBound c → KeepsItsBound (cond b g c)
 greater_by c g true h k = h
 greater_by c g false h k = k
@@ -186,11 +197,13 @@ pub greater_within : (o : Option Charge) (c : Charge) → IfSome o KeepsItsBound
 greater_within None c h k = k
 greater_within (Some g) c h k = greater_by c g (leb c.difference g.difference) h k
 
+-- a watch is still one of its processor after one more charge that keeps its bound, or none
 measured_by : (d : Discipline) (p : Running) (nows : List ℕ) (o : Option Charge) (w : Watch)
     → IfSome o KeepsItsBound → IsWatchOf d p nows w → IsWatchOf d p nows (measured_if o w)
 measured_by d p nows None w h is = is
 measured_by d p nows (Some c) w h is = record { since = is.since; greatest = greater_within w.greatest c is.greatest h }
 
+-- the rise up to one reading, and that reading's own, are the rise up to the next, and fit in 64 bits
 counted : (start last now : ℕ) → start ≤ last → last ≤ max start (2 ^ 48 - 1)
     → min ((last - start) + (reading last now - last)) (2 ^ 64 - 1) ≡ reading last now - start
 counted start last now low high = omega arith
@@ -209,6 +222,7 @@ counts d p nows now w is =
       greatest = is.greatest;
     }
 
+-- where no measure passes its bound, what a watch keeps does not after one more reading
 watch_within : (discipline : DisciplineName) (d : Discipline) → MeasureWithin discipline d → WatchWithin discipline d
 watch_within discipline d law p nows now None w sound is h = counts d p nows now w is
 watch_within discipline d law p nows now (Some s) w sound is h =

@@ -33,9 +33,11 @@ cfs_stays_near p nows j a b u distinct weight decides there runs =
 
 -- The mean is not behind where the task that runs began
 
+-- a place that is at most at the mean is so when one task has moved on
 more : (w x y s W v M : ℕ) → W ≡ w + s → W * v ≤ w * x + M → x ≤ y → W * v ≤ w * y + M
 more w x y s W v M e h le = omega (arith, mul-le-mul_left w le)
 
+-- a place that was at most at the mean is not ahead of the mark after readings, of a busy processor, and of any:
 mean : (q : List Task) (mark : ℕ) (a : Task) (last v now : ℕ) (nows : List ℕ)
     → 15 ≤ a.weight → a.v ≤ 2 ^ 62 → total_weight (a ∷ q) * v ≤ weighted_sum (a ∷ q)
     → v ≤ (after_steps eevdf (busy_processor q mark a last) (map Pass (now ∷ nows))).mark

@@ -38,12 +38,15 @@ record IsLevel (E r s : ℕ) (p : Running) : Type 0 where
 
 -- Time passes
 
+-- a charge leaves the weight of all tasks together
 weight_charged : (p : Running) (now : ℕ) → weight_present (charge eevdf p now) ≡ weight_present p
 weight_charged p now = sym (total_weight-decided eevdf (charge eevdf p now)) ∙ total_weight-ticked eevdf p now
 
+-- a decision after a charge leaves the weighted sum as it is
 moment_charged : (p : Running) (now : ℕ) → weighted_v_at (ticked eevdf p now) ≡ weighted_v_at (charge eevdf p now)
 moment_charged p now = weighted_sum-decided eevdf (charge eevdf p now)
 
+-- in numbers: a task that moves on, by no more than a rise takes, is ahead by no more than the longer rise takes
 further : (W w o M N E x y g s most both : ℕ) → W ≡ w + o → y ≡ x + g → g ≤ most → s + most ≤ both
     → W * x ≤ M + (E + o * s) → N + w * x ≡ M + w * y
     → W * y ≤ N + (E + o * both)
@@ -79,6 +82,7 @@ ran_further E r s p now t w l c =
     few add start sum in
     rw less law
 
+-- after a reading each task is ahead by no more than E and what r takes at its weight
 ahead_by : (E r s : ℕ) (p : Running) (now i : ℕ) (t u : Task)
     → IsWellFormed p → IsLevel E r s p → s + rise p now ≤ r → task_at i p ≡ Some t → Change eevdf p now i t u
     → weight_present p * u.v ≤ weighted_v_at (charge eevdf p now) + most_ahead E r (weight_present p) u.weight
@@ -91,6 +95,7 @@ ahead_by E r s p now i t u w l le f (Runs c e z) =
     let more = mul-le-mul_left (weight_present p - t.weight) (vdelta_of-le (s + rise p now) r t.weight (w.weights i t f).0 le) in
     rw e (omega arith)
 
+-- the task that runs after a charge is the one that ran, charged for the rise:
 charged_runs_by : (q : List Task) (mark : ℕ) (o : Option Task) (last now : ℕ) (u : Task)
     → (let p : Running = record { queue = q; mark = mark; current = o; last = last } in
     (charge eevdf p now).current ≡ Some u → (t : Task) × (o ≡ Some t) × (u ≡ charged eevdf t (rise p now)))
@@ -101,6 +106,7 @@ charged_runs : (p : Running) (now : ℕ) (u : Task) → (charge eevdf p now).cur
     → (t : Task) × (p.current ≡ Some t) × (u ≡ charged eevdf t (rise p now))
 charged_runs p now u e = charged_runs_by p.queue p.mark p.current p.last now u e
 
+-- a reading leaves a processor level, with its rise added to that since the last decision
 pass : (E r s : ℕ) (p : Running) (now : ℕ) → IsWellFormed p → IsLevel E r s p → s + rise p now ≤ r
     → IsLevel E r (s + rise p now) (charge eevdf p now)
 pass E r s p now w l le = record {
@@ -116,6 +122,7 @@ pass E r s p now w l le = record {
 
 -- The discipline decides
 
+-- a decision leaves a processor level, with no rise since
 decide : (E r s : ℕ) (p : Running) → IsWellFormed p → IsLevel E r s p → IsLevel E r 0 (stepped eevdf p Decide)
 decide E r s p w l =
     let q = stepped eevdf p Decide in
@@ -140,9 +147,11 @@ record Left (E r : ℕ) (p q : Running) : Type 0 where
   pub weight : weight_present q ≡ weight_present p
   pub each : (i : ℕ) (t : Task) → task_at i q ≡ Some t → weight_present q * t.v ≤ weighted_v_at q + most_ahead E r (weight_present q) t.weight
 
+-- what steps leave of a processor, they leave of an earlier one of the same weight
 via : (E r : ℕ) (p m q : Running) → weight_present m ≡ weight_present p → Left E r m q → Left E r p q
 via E r p m q e l = record { formed = l.formed; weight = l.weight ∙ e; each = l.each }
 
+-- steps in which none comes or goes, and that decide in time, leave each task no further ahead than E and what r takes
 left : (E r s : ℕ) (p : Running) (ss : List ProcessorStep) → IsWellFormed p → KeepsAll ss → IsLevel E r s p
     → DecidesWithin r eevdf s p ss
     → Left E r p (after_steps eevdf p ss)
@@ -164,17 +173,21 @@ left E r s p (Leave i ∷ ss) w k l d = absurd k.0
 
 -- The beginning
 
+-- none of some tasks is further ahead of the mean than the furthest
 none_further : (mean n : ℕ) (xs : List Task) → furthest mean xs ≤ n → AllByRecursion (λ t. t.v ≤ mean + n) xs
 none_further mean n [] h = tt
 none_further mean n (t ∷ xs) h = (omega arith, none_further mean n xs (omega arith))
 
+-- the mean times the weight of all is at most their weighted sum
 mean_below : (xs : List Task) → total_weight xs * mean_at xs ≤ weighted_sum xs
 mean_below [] = omega arith
 mean_below (t ∷ xs) = omega (arith, div-mul-le_self (weighted_sum (t ∷ xs)) (total_weight (t ∷ xs)))
 
+-- in numbers: a task that is ahead of the mean by at most a is within what it may be ahead
 begins_by : (W M mean a v o most : ℕ) → W * mean ≤ M → v ≤ mean + a → W * v ≤ M + (W * a + o * most)
 begins_by W M mean a v o most h le = omega (arith, mul-le-mul_left W le)
 
+-- a processor is level when it begins, with E as the weight of all times the lead of the furthest
 begins : (r : ℕ) (p : Running) → IsWellFormed p → IsLevel (weight_present p * furthest (mean_at (present_at p)) (present_at p)) r 0 p
 begins r p w =
     let xs = present_at p in
@@ -192,6 +205,7 @@ begins r p w =
 
 -- The bound in time
 
+-- in numbers: a task that is no further behind than it may be is owed no more than its bound, before the division
 numbers : (W M w v V g a r m o x : ℕ) → W ≡ w + o → W * V ≤ M → V ≡ v + g → 1024 * x ≤ w * g
     → w * M ≤ w * (W * v) + (o * (W * a) + 1024 * r * (m * W + w))
     → x * (1024 * W) ≤ (o * a * W + 1024 * r * w) + m * r * (1024 * W)
@@ -201,6 +215,7 @@ numbers W M w v V g a r m o x split mean up lag law =
     let e = mul-le-mul_left W lag in
     omega arith
 
+-- in numbers: x is at most k and num over D together, if x times D is at most num and k times D together:
 part : (x k y D num : ℕ) → x ≡ k + y → 1 ≤ D → x * D ≤ num + k * D → x ≤ k + num / D
 part x k y D num e pos h =
     let a = ap (λ n. n * D) e in
@@ -211,6 +226,7 @@ within_by : (x k D num : ℕ) (b : Bool) → leb x k ≡ b → 1 ≤ D → x * D
 within_by x k D num true e pos h = let le : x ≤ k = grind (arith, nat_tests) in omega arith
 within_by x k D num false e pos h = let le : k ≤ x = grind (arith, nat_tests) in part x k (x - k) D num (omega arith) pos h
 
+-- in numbers: so it is owed no more than its bound, whether it is behind the mean or not
 behind_by : (W M w v a r m o : ℕ) (b : Bool) → leb (M / W) v ≡ b → 1 ≤ W → W ≡ w + o
     → w * M ≤ w * (W * v) + (o * (W * a) + 1024 * r * (m * W + w))
     → w * (M / W - v) / 1024 ≤ m * r + (o * a * W + 1024 * r * w) / (1024 * W)
@@ -227,10 +243,12 @@ behind_by W M w v a r m o false e pos split law =
     let whole = numbers W M w v (M / W) g a r m o x split mean (omega arith) lag law in
     within_by x (m * r) (1024 * W) (o * a * W + 1024 * r * w) (leb x (m * r)) refl (omega arith) whole
 
+-- where a task is present, the mean is the weighted sum over the weight of all
 mean_is : (j : ℕ) (xs : List Task) (b : Task) → find_task j xs ≡ Some b → mean_at xs ≡ weighted_sum xs / total_weight xs
 mean_is j [] b f = cc
 mean_is j (t ∷ xs) b f = refl
 
+-- a task that is no further behind than it may be is owed no more than its bound
 finish : (r a W : ℕ) (q : Running) (j : ℕ) (b : Task) → task_at j q ≡ Some b → 15 ≤ b.weight → weight_present q ≡ W
     → b.weight * weighted_v_at q
     ≤ b.weight * (weight_present q * b.v)

@@ -16,6 +16,7 @@ pub record Ran (d : Discipline) (p : Running) (a : Task) (nows : List ℕ) : Typ
   pub v : task.v ≤ a.v + vdelta_of ((after_steps d p (map Pass nows)).last - p.last) a.weight
   pub later : p.last ≤ (after_steps d p (map Pass nows)).last
 
+-- a rise in two parts takes a task of this weight no further than the whole rise
 split : (last at end w v x u : ℕ) → 15 ≤ w → last ≤ at → at ≤ end → x ≤ v + vdelta_of (at - last) w
     → u ≤ x + vdelta_of (end - at) w
     → u ≤ v + vdelta_of (end - last) w
@@ -24,6 +25,7 @@ split last at end w v x u low le le' h k =
     let whole = vdelta_of-le ((at - last) + (end - at)) (end - last) w low (omega arith) in
     omega arith
 
+-- at a busy processor the task runs on through readings, no further than the rise takes it at its weight
 ran : (d : Discipline) (q : List Task) (mark : ℕ) (a : Task) (last : ℕ) (nows : List ℕ)
     → 15 ≤ a.weight → Ran d (busy_processor q mark a last) a nows
 ran d q mark a last [] low = record { task = a; runs = refl; weight = refl; v = omega arith; later = omega arith }

@@ -24,6 +24,7 @@ abbrev IsBelow : ℕ → Option Charge → Type 0
 IsBelow n None = ⊥
 IsBelow n (Some c) = c.difference ≤ n
 
+-- the greatest of charges that are not above a number is not: of two, of one and those kept, and of many:
 greater_below : (n : ℕ) (c d : Charge) (b : Bool) → leb d.difference c.difference ≡ b → c.difference ≤ n → d.difference ≤ n
     → (cond b c d).difference ≤ n
 greater_below n c d true e h k = h
@@ -45,6 +46,7 @@ owed_below w a mean m v least hw hm hv =
     let product : w * (mean - v) ≤ a * (m - least) = mul-le-mul hw (omega arith) in
     le-div (w * (mean - v) / 1024) (a * (m - least)) 1024 (omega arith) (omega (arith, product, div-mul-le_self (w * (mean - v)) 1024))
 
+-- none of the tasks of a glance is owed more than the glance says at most
 lags_below : (g : Glance) (s z : Stretch) (mean n W : ℕ) (xs : List Task)
     → mean ≤ g.mean → AllByRecursion (λ (u : Task). g.least ≤ u.v) xs
     → AllByRecursion (λ (u : Task). u.weight ≤ s.heaviest) xs
@@ -64,6 +66,7 @@ greatest_stays best c o e h =
     let P : Option Charge → Type 0 = λ o. Some (greater o c) ≡ o in
     subst P (sym e) (ap (λ k. Some k) (stays best c (leb c.difference best.difference) refl h))
 
+-- what is owed most changes only the count of the lags, if it is not above the greatest that is kept
 owing_stays : (l : Lags) (best : Charge) (o : Option Charge) → l.greatest ≡ Some best → IsBelow best.difference o
     → owing o l ≡ record l { measured = saturating_sum l.measured 1 }
 owing_stays l best None e r = absurd r
@@ -71,10 +74,12 @@ owing_stays l best (Some c) e r =
     ap (λ (k : Option Charge). record l { measured = saturating_sum l.measured 1; greatest = k })
     (greatest_stays best c l.greatest e r)
 
+-- what is not above a number is not above a greater one
 raised : (m n : ℕ) (o : Option Charge) → m ≤ n → IsBelow m o → IsBelow n o
 raised m n None le h = h
 raised m n (Some c) le h = omega (arith, le, h)
 
+-- where no task can be owed more than the greatest, a stretch that goes on changes only itself and the count
 unseen : (c : Effect) (rise : ℕ) (g : Glance) (s : Stretch) (l : Lags) (best : Charge) (t : Task) (xs : List Task)
     → l.greatest ≡ Some best → min (at_most_owed g s) (2 ^ 64 - 1) ≤ best.difference → IsGlanceOf g s t xs
     → gone_on c rise (t ∷ xs) s l ≡ record l { stretch = Some (decided_in c (stretched rise s)); measured = saturating_sum l.measured 1 }

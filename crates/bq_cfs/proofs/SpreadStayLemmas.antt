@@ -1,4 +1,4 @@
--- An event whose preemption is decided by the rule keeps a processor within its bound.
+-- An event whose preemption is decided by the discipline keeps a processor within its bound.
 use Rattle.std.proofs.Common.{◌≡◌, ℕ, ◌+◌, ◌-◌, ◌^◌, ◌<◌, ◌≤◌, Bool, true, false, cond, eqb, List, [], ◌∷◌, Option, Some, None, refl, arith, nat_lt}
 use Rattle.std.specs.Prelude.{All, IfSome}
 use Rattle.std.specs.Option.{option_map_or}
@@ -111,7 +111,7 @@ near_each n (x ∷ xs) e =
     let le : n ≤ m.v + 1000000 = grind (arith, nat_tests) in
     weaker_of_each (λ (t : Task). m.v ≤ t.v) (λ (t : Task). n ≤ t.v + 1000000) (λ t k. omega arith) (x ∷ xs) (none_below_least x xs)
 
--- the processor keeps it too if the current task runs on by the rule
+-- the processor keeps it too if the current task runs on by the discipline
 kept_stays : (V d n mark last : ℕ) (q : List Task) (u : Task)
     → HasDistinctIds (u ∷ q) → AllByRecursion (IsLevel V d n) (u ∷ q) → own_preempt cfs q (Some u) ≡ false
     → Stays V d (busy_processor q mark u last)
@@ -147,7 +147,7 @@ exchanged_stays V d n mark last next q u m chosen found distinct h none le =
           (each-without near m.id q (weaker_of_each (λ (t : Task). m.v ≤ t.v) near (λ t k. omega arith) q none)),
     ))
 
--- it keeps it if the current task gives way by the rule, and so whatever the rule decides
+-- it keeps it if the current task gives way by the discipline, and so whatever the discipline decides
 switched_stays : (V d n mark last : ℕ) (q : List Task) (u : Task)
     → HasDistinctIds (u ∷ q) → AllByRecursion (IsLevel V d n) (u ∷ q) → own_preempt cfs q (Some u) ≡ true
     → Stays V d (switched cfs (busy_processor q mark u last) (Some u))

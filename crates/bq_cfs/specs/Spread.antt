@@ -1,4 +1,4 @@
--- The spread of CFS: how far apart the tasks of one processor can come while nothing enters and only the rule decides
+-- The spread of CFS: how far apart the tasks of one processor can come while nothing enters and only the discipline decides
 -- who gives way.
 use Rattle.std.specs.Prelude.{ℕ, ◌+◌, ◌≤◌, ◌^◌, max, List, [], ◌∷◌, Option, Some, None, All, IfSome}
 use Rattle.std.specs.Option.{option_map_or}
@@ -41,7 +41,7 @@ abbrev pub departed : Running → ℕ → Option Task → Running
 departed p now None = p
 departed p now (Some t) = choice_started cfs (record (charge cfs p now) { current = None })
 
--- the processor after an event, if only the rule decides whether the current task gives way
+-- the processor after an event, if only the discipline decides whether the current task gives way
 abbrev pub processor_passed : Running → SpreadEvent → Running
 processor_passed p (Tick now) = ticked cfs p now
 processor_passed p (Block now) = departed p now p.current

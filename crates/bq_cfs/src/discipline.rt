@@ -16,7 +16,7 @@ pub const GRANULARITY: u64 = 1_000_000;
 /// A woken task enters at most this much behind the mark.
 const BONUS: i64 = 3_000_000;
 
-/// The rule of the completely fair scheduler (sched-design-CFS.rst): the task of least (v, id) runs.
+/// The completely fair scheduler (sched-design-CFS.rst): the task of least (v, id) runs.
 ///
 /// The current task gives way to one that is more than 1,000,000 behind it. The mark is the least v present, and never
 /// falls. A woken task enters as far from the mark as it left, but at most 3,000,000 behind it. Deadlines are 0.

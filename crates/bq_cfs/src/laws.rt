@@ -30,7 +30,7 @@ pub fn begins_within()
     ensures { BeginsWithin }
 {}
 
-/// A Tick or a Block keeps a processor within V and d if the clock rises by at most d ns and only the rule decides whether
+/// A Tick or a Block keeps a processor within V and d if the clock rises by at most d ns and only the discipline decides whether
 /// the current task gives way. It is presumed that ids differ, that each weight present is from 15 to 88761, and that no
 /// virtual time present is beyond 2^62. The event keeps these premises too.
 pub fn stays_within()

@@ -1,4 +1,4 @@
-//! The rule of the completely fair scheduler: the task of least virtual runtime runs.
+//! The completely fair scheduler (CFS) as a discipline: the task of least virtual runtime runs.
 #![tactic(auto)]
 
 pub mod discipline;

@@ -11,10 +11,10 @@ use std::marker::{Model, PhantomData};
 pub struct RuledQueue<T: TaskOrder, R: Discipline> {
     tasks: T,
     mark: u64,
-    rule: PhantomData<R>,
+    discipline: PhantomData<R>,
 }
 
-/// The plain queue under any rule: a list of boxes.
+/// The plain queue under any discipline: a list of boxes.
 pub type List<R> = RuledQueue<Chain, R>;
 
 impl<T: TaskOrder, R: Discipline> Model for RuledQueue<T, R> {
@@ -41,7 +41,7 @@ impl<T: TaskOrder, R: Discipline> RunQueue for RuledQueue<T, R> {
         RuledQueue {
             tasks: T::empty(),
             mark: FIRST_MARK,
-            rule: PhantomData,
+            discipline: PhantomData,
         }
     }
 

@@ -25,6 +25,7 @@ unfolding entries_text
 entries_end s first place tasks whole now none is =
     sym (append-nil now) ∙ sym (ap (λ (l : List ℕ). now ++ entries_text s first place l) none) ∙ is
 
+-- a task that is shown may as well be added behind those before it as put in front of the rest
 chosen : (now : List ℕ) (task : ℕ) (rest : List ℕ) (b : Bool) → (now ++ cond b (task ∷ []) []) ++ rest ≡ now ++ cond b (task ∷ rest) rest
 chosen now task rest true = append_assoc now (task ∷ []) rest
 chosen now task rest false = ap (λ t. t ++ rest) (append-nil now)

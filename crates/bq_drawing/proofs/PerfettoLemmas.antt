@@ -1,4 +1,4 @@
--- The events of a trace, one behind another.
+-- The events of a trace for Perfetto, one behind another.
 use Rattle.std.proofs.Common.{◌≡◌, ℕ, ◌+◌, ◌-◌, ◌*◌, List, ◌++◌, Option, Some, refl, sym, ap, ◌∙◌, subst, append_assoc}
 use Rattle.std.specs.Prelude.{◌==◌, codes, option_map}
 use Rattle.std.specs.Fmt.{decimal}
@@ -38,6 +38,7 @@ tracks_written processor runs events name other old now new is is_64 n o e1 e2 =
     ∙ ap (λ k. old ++ (track_text runs first (runs * 2) ++ track_text (k + runs) second (runs * 2 + 1))) is_64
     ∙ ap (λ p. old ++ tracks_text p) is
 
+-- marks with equal names, tracks and arguments are the same
 same_mark : (kind name name' : List ℕ) (track track' at : ℕ) (args args' : List ℕ) → name ≡ name' → track ≡ track' → args ≡ args'
     → instant_text kind name track at args ≡ instant_text kind name' track' at args'
 same_mark kind name name' track track' at args args' n t a =
@@ -124,9 +125,11 @@ tail_added w names s h number old now next is runs e = (
   e ∙ ap (λ t. t ++ codes "\n]}\n") runs.2 ∙ append_assoc old runs.0 (codes "\n]}\n"),
 )
 
+-- parts of a text that are joined from the left are the same joined from the right
 regroup : (t a b c d e f : List ℕ) → (((((t ++ a) ++ b) ++ c) ++ d) ++ e) ++ f ≡ t ++ (a ++ (b ++ (c ++ (d ++ (e ++ f)))))
 regroup t a b c d e f = simp append_assoc
 
+-- a text that grows by six parts in turn has grown by all of them, in order
 six : (t0 t1 t2 t3 t4 t5 t6 a b c d e f : List ℕ) → t1 ≡ t0 ++ a → t2 ≡ t1 ++ b → t3 ≡ t2 ++ c → t4 ≡ t3 ++ d → t5 ≡ t4 ++ e → t6 ≡ t5 ++ f
     → t6 ≡ t0 ++ (a ++ (b ++ (c ++ (d ++ (e ++ f)))))
 six t0 t1 t2 t3 t4 t5 t6 a b c d e f e1 e2 e3 e4 e5 e6 =

@@ -77,6 +77,7 @@ pub added_as : {T E : Type 0} (r : Result T E) (old new a reported : List ℕ)
     → reported ≡ a → OnOk r (new ≡ old ++ reported) → OnOk r (new ≡ old ++ a)
 added_as r old new a reported is e1 = on_ok_weaker r (λ e. e ∙ ap (λ t. old ++ t) is) e1
 
+-- a text that grows three times has grown by all three parts, in order
 all_added : (old t1 t2 t3 a b c : List ℕ) → t1 ≡ old ++ a → t2 ≡ t1 ++ b → t3 ≡ t2 ++ c → t3 ≡ old ++ (a ++ (b ++ c))
 all_added old t1 t2 t3 a b c e1 e2 e3 = both_added old t1 t3 a (b ++ c) e1 (both_added t1 t2 t3 b c e2 e3)
 

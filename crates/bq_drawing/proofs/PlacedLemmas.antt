@@ -51,6 +51,7 @@ unfolding lanes_after
 lanes_all room lanes items i whole none is =
     ap (λ (l : List ℕ). length l) (sym (ap (λ (l : List TaskInterval). lanes_after room lanes l) none) ∙ is)
 
+-- two counts that are added in turn, up to the greatest number, are their sum added at once
 further : (n a b : ℕ) → saturating_sum (saturating_sum n a) b ≡ saturating_sum n (a + b)
 further n a b = omega arith
 
@@ -82,6 +83,7 @@ left_all room lanes items i whole now none small is =
 
 -- ---- rows
 
+-- whether a row is of this processor
 has_number : ℕ → PlacedRow → Bool
 has_number q p = p.number == q
 
@@ -133,6 +135,7 @@ bands_next placed next number old new own none sets before q =
     or_none None = refl
     or_none (Some p) = refl
 
+-- one more row adds its text behind that of the others, and its count to theirs:
 more_text : (draw : PlacedRow → List ℕ) (placed : List PlacedRow) (next : PlacedRow) (old new : List ℕ)
     → old ≡ flat_map draw placed → new ≡ old ++ draw next → new ≡ flat_map draw (placed ++ next ∷ [])
 more_text draw placed next old new before e =
@@ -207,6 +210,7 @@ lines_stay w s rows number old new way = ⊎_elim
     (λ (none : ¬ (HasRow w rows number) × (new ≡ old)). ap (λ (r : WrittenRows). r.links) none.1)
     way
 
+-- lines between rows are the same by the same bands: one line, and all of some kind:
 line_same : (kind : LinkKind) (s : PictureSetting) (f g : ℕ → Option ℕ)
     → ((q : ℕ) → f q ≡ g q) → (link : RowLink) → link_line kind s f link ≡ link_line kind s g link
 line_same kind s f g same link =

@@ -11,7 +11,7 @@ ghost use Rattle.bq_eevdf.specs.Lawful.{eevdf_lawful};
 use bq_disc::{Deadline, Discipline, Node, RuledQueue, TaskOrder, Totals};
 use bq_tree::{Sums, Tree};
 
-/// The rule of earliest eligible virtual deadline first (sched-eevdf.rst; Stoica and Abdel-Wahab 1995, section 3).
+/// Earliest eligible virtual deadline first (sched-eevdf.rst; Stoica and Abdel-Wahab 1995, section 3).
 ///
 /// With the weights w_i and virtual runtimes v_i of the tasks considered, their mean is V = sum(w_i v_i) / sum(w_i). The lag
 /// of a task is w_i (V - v_i): the time that it is owed. A task is eligible if its lag is at least 0. That is v_i <= V, or

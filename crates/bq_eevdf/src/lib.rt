@@ -1,4 +1,4 @@
-//! The rule of earliest eligible virtual deadline first: of the tasks that are owed time, the one due first runs.
+//! Earliest eligible virtual deadline first (EEVDF) as a discipline: of the tasks that are owed time, the one due first runs.
 #![tactic(auto)]
 
 pub mod discipline;

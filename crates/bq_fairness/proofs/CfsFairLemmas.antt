@@ -32,7 +32,7 @@ started_near (x ∷ xs) mark last d =
     rw (least_is_found x xs d)
     (weaker_of_each (λ (t : Task). m.v ≤ t.v) (λ (t : Task). m.v ≤ t.v + 1000000) (λ t k. omega arith) (x ∷ xs) (none_below_least x xs))
 
--- where a task gives way, the one that then runs is so of all that were present, by cases: to one that is so, by the rule
+-- where a task gives way, the one that then runs is so of all that were present, by cases: to one that is so, by the discipline
 exchanged_near : (q : List Task) (mark last next : ℕ) (u m : Task)
     → next ≡ m.id → find_task m.id q ≡ Some m → IsNearEach (u ∷ q) m
     → IfSome (exchanged (busy_processor q mark u last) u (find_task next q)).current (IsNearEach (u ∷ q))
@@ -50,7 +50,7 @@ switched_near (x ∷ xs) mark last u d e =
     exchanged_near (x ∷ xs) mark last (next_of cfs u (x ∷ xs)) u m (next_is_least u x xs (omega arith))
     (least_is_found x xs d.1) (omega arith, near)
 
--- where a task ran, the one that runs after the rule decides is so; and where a task ran or none
+-- where a task ran, the one that runs after the discipline decides is so; and where a task ran or none
 decided_near : (q : List Task) (mark last : ℕ) (u : Task) (b : Bool)
     → HasDistinctIds (u ∷ q) → own_preempt cfs q (Some u) ≡ b
     → IfSome (decided cfs (busy_processor q mark u last) (Some u) b).current (IsNearEach (u ∷ q))

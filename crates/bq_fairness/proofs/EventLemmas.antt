@@ -47,7 +47,7 @@ keeps_current : (k : ℕ) (q : List Task) (o : Option Task) (t : Task)
 keeps_current k q None t h f = refl
 keeps_current k q (Some c) t h f = keeps_by k q c t (eqb c.id k) refl h.0 f
 
--- what each event does at a processor where only the rule decides is what some steps do
+-- what each event does at a processor where only the discipline decides is what some steps do
 pub events_are_steps : EventsAreSteps
 events_are_steps = record {
   tick = λ d p now. refl;

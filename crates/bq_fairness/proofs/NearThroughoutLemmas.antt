@@ -1,4 +1,4 @@
--- Of two tasks that are present throughout one stays near the other, where the rule lets none run that is beyond what each other
+-- Of two tasks that are present throughout one stays near the other, where the discipline lets none run that is beyond what each other
 -- reaches: a number that does not fall while time passes.
 use Rattle.std.proofs.Common.{◌≡◌, ℕ, ◌+◌, ◌-◌, ◌^◌, ◌≤◌, max, Bool, true, false, cond, eqb, List, [], ◌∷◌, Option, Some, None, refl, ap, sym, ◌∙◌, arith, subst}
 use Rattle.bq_weights.specs.VirtualTime.{vdelta_of}
@@ -31,7 +31,7 @@ abbrev pub OfEachEntered : (Task → Type 0) → List ProcessorStep → Type 0
 OfEachEntered P [] = Unit {0}
 OfEachEntered P (s ∷ ss) = OfEntered P s × OfEachEntered P ss
 
--- a rule, what each task reaches, and a premise on each task that time keeps
+-- a discipline, what each task reaches, and a premise on each task that time keeps
 pub record IsReach (d : Discipline) (reach : Task → ℕ) (P : Task → Type 0) : Type 0 where
   pub keeps : (t : Task) (x : ℕ) → t.v ≤ 2 ^ 62 → P t → P (charged d t x)
   pub up : (t : Task) (x : ℕ) → t.v ≤ 2 ^ 62 → P t → reach t ≤ reach (charged d t x)
@@ -134,7 +134,7 @@ close_pass d reach P law V r n p now i j u t w h le c =
 same_task : (o : Option Task) (a b : Task) → o ≡ Some a → o ≡ Some b → a ≡ b
 same_task o a b e f = cc
 
--- two such tasks stay so as the rule decides, after which no time has passed
+-- two such tasks stay so as the discipline decides, after which no time has passed
 close_decide : (d : Discipline) (reach : Task → ℕ) (P : Task → Type 0)
     → IsReach d reach P → (V r n : ℕ) (p : Running) (i j : ℕ) (u t : Task) → IsWellFormed p
     → Each P p → IsClose V r n i j reach p u t

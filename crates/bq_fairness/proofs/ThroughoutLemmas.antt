@@ -1,4 +1,4 @@
--- Under both rules two tasks that are present throughout are served in proportion, whatever others come and go.
+-- Under both disciplines two tasks that are present throughout are served in proportion, whatever others come and go.
 use Rattle.std.proofs.Common.{◌≡◌, ◌+◌, ◌≤◌, List, [], ◌∷◌, Some, arith}
 use Rattle.bq_weights.specs.VirtualTime.{vdelta_of}
 use Rattle.bq_disc.specs.Tasks.{Task}
@@ -29,7 +29,7 @@ anyhow (Enter t ∷ ss) = (tt, anyhow ss)
 anyhow (Leave k ∷ ss) = (tt, anyhow ss)
 anyhow (Mark ∷ ss) = (tt, anyhow ss)
 
--- under CFS each task reaches 1,000,000 beyond its v: the rule lets none run that is beyond what another reaches
+-- under CFS each task reaches 1,000,000 beyond its v: the discipline lets none run that is beyond what another reaches
 cfs_reach : IsReach cfs (λ t. t.v + 1000000) Anyhow
 cfs_reach = record {
   keeps = λ t x e h. tt;
@@ -62,7 +62,7 @@ due_of_entered (Enter t ∷ ss) h = (record { low = h.0.0; high = h.0.1 }, due_o
 due_of_entered (Leave k ∷ ss) h = (tt, due_of_entered ss h)
 due_of_entered (Mark ∷ ss) h = (tt, due_of_entered ss h)
 
--- under EEVDF each task reaches its deadline: the rule lets none run that is beyond another's deadline
+-- under EEVDF each task reaches its deadline: the discipline lets none run that is beyond another's deadline
 eevdf_reach : IsReach eevdf (λ t. t.deadline) IsDue
 eevdf_reach = record {
   keeps = charged_due;

@@ -10,7 +10,7 @@ use Rattle.bq_fairness.specs.CfsFairness.{CfsServesInProportion, CfsServesWithin
 use Rattle.bq_fairness.specs.EevdfDeadlines.{EevdfServesBySlices}
 use Rattle.bq_fairness.proofs.ThroughoutLemmas.{cfs_serves_throughout, eevdf_serves_throughout}
 
--- Ticks as steps: at each the time passes, and the rule decides
+-- Ticks as steps: at each the time passes, and the discipline decides
 abbrev steps_of : List ℕ → List ProcessorStep
 steps_of [] = []
 steps_of (now ∷ nows) = Pass now ∷ Decide ∷ steps_of nows

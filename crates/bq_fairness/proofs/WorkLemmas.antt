@@ -16,7 +16,7 @@ use Rattle.bq_fairness.proofs.SumLemmas.{total_weight-ticked, weighted_sum-busy,
 
 -- Where a task runs, one does after each Tick
 
--- where a task runs, one runs after an exchange, after any decision, after the rule's decision, and after a Tick
+-- where a task runs, one runs after an exchange, after any decision, after the discipline's decision, and after a Tick
 busy_exchanged : (q : List Task) (mark last : ℕ) (u : Task) (o : Option Task)
     → IsSome (exchanged (busy_processor q mark u last) u o).current
 busy_exchanged q mark last u None = refl

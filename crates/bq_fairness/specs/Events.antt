@@ -1,4 +1,4 @@
--- The events of a processor as steps: what each does by the definitions of one processor, if only the rule decides.
+-- The events of a processor as steps: what each does by the definitions of one processor, if only the discipline decides.
 use Rattle.std.specs.Prelude.{◌≡◌, ℕ, List, [], ◌∷◌, None, Some}
 use Rattle.bq_disc.specs.Tasks.{Task, find_task}
 use Rattle.bq_disc.specs.Queues.{HasDistinctIds}
@@ -7,7 +7,7 @@ use Rattle.bq_disc.specs.OneProcessor.{Running, present_at, marked, charge, choi
 use Rattle.bq_parts.specs.Moves.{with_pulled, without_task}
 use Rattle.bq_fairness.specs.Steps.{ProcessorStep, Pass, Decide, Enter, Leave, Mark, after_steps}
 
--- some woken tasks enter at a mark, then the rule decides
+-- some woken tasks enter at a mark, then the discipline decides
 abbrev pub entries : Discipline → ℕ → List Task → List ProcessorStep
 entries d mark [] = Decide ∷ []
 entries d mark (t ∷ tasks) = Enter (woken d mark t) ∷ entries d mark tasks

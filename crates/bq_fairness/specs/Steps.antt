@@ -1,5 +1,5 @@
 -- Histories in which tasks come and go. What happens at a processor is made of a few kinds of step: time passes and is
--- charged, the rule decides, a task enters the queue, a task leaves, the mark is computed again. A Tick is the first two. A
+-- charged, the discipline decides, a task enters the queue, a task leaves, the mark is computed again. A Tick is the first two. A
 -- Block has a Leave between them, and a Drain its entries. The end of a wake only passes time. A pull passes time,
 -- and a task may enter; it decides only at a processor where nothing runs (specs/Events).
 use Rattle.std.specs.Prelude.{◌≡◌, ℕ, ◌+◌, ◌≤◌, ◌^◌, max, Bool, false, ◌==◌, if◌then◌else◌, List, [], ◌∷◌, Option, None, Some}
@@ -18,7 +18,7 @@ use Rattle.bq_fairness.specs.EevdfDeadlines.{HasDeadlines}
 pub data ProcessorStep : Type 0 where
   -- the clock is read, and the time since the last reading is charged
   Pass : ℕ → ProcessorStep
-  -- only the rule decides
+  -- only the discipline decides
   Decide : ProcessorStep
   -- a task enters the queue, at whatever virtual time
   Enter : Task → ProcessorStep
@@ -58,7 +58,7 @@ abbrev pub served_by : ℕ → Discipline → Running → List ProcessorStep →
 served_by id d p [] = 0
 served_by id d p (s ∷ ss) = step_charge id p s + served_by id d (stepped d p s) ss
 
--- how far the clock has risen since the rule last decided; n before the step
+-- how far the clock has risen since the discipline last decided; n before the step
 abbrev pub since : ℕ → Running → ProcessorStep → ℕ
 since n p (Pass now) = n + rise p now
 since n p Decide = 0

@@ -40,7 +40,7 @@ BooksTheTime =
     (d : Discipline) (p : Running) (nows : List ℕ) → AreTasksSound p → IsSome p.current →
     (booked d p nows ≤ NICE_0_WEIGHT * elapsed d p nows) × (NICE_0_WEIGHT * elapsed d p nows ≤ booked d p nows + most_lost nows)
 
--- The sum of weight times v rises by what is booked, however the rule decides
+-- The sum of weight times v rises by what is booked, however the discipline decides
 abbrev pub MovesTheSum : Type 0
 MovesTheSum =
     (d : Discipline) (p : Running) (nows : List ℕ) → AreTasksSound p → HasRoom p →

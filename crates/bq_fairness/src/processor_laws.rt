@@ -18,7 +18,7 @@ pub fn moves_the_sum()
     ensures { MovesTheSum }
 {}
 
-/// CFS, proportional service. Take Ticks that only the rule decides, at each of which the clock rises by at most r, and two
+/// CFS, proportional service. Take Ticks that only the discipline decides, at each of which the clock rises by at most r, and two
 /// present tasks a and b. Then a comes to no more virtual time than the sum of three: the greater of where it began and
 /// 1,000,000 beyond where b began; what b was served; and what r takes at a's own weight.
 pub fn cfs_serves_in_proportion()
@@ -144,7 +144,7 @@ pub fn eevdf_serves_throughout()
     ensures { EevdfServesThroughout }
 {}
 
-/// Each event of a processor is some of those steps, if only the rule decides: a Tick, a Block, a Drain, the end of a wake,
+/// Each event of a processor is some of those steps, if only the discipline decides: a Tick, a Block, a Drain, the end of a wake,
 /// and a pull at either end.
 pub fn events_are_steps()
     ensures { EventsAreSteps }

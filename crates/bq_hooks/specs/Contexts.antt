@@ -39,7 +39,7 @@ pub record PlaceFacts : Type 0 where
   pub own : ℕ
   pub loads : List ℕ
 
--- what a preempt policy is asked about: the processor, its queue, the current task, the rule's choice of only the queue, and
+-- what a preempt policy is asked about: the processor, its queue, the current task, the discipline's choice of only the queue, and
 -- the discipline's own answer
 pub record PreemptFacts : Type 0 where
   pub processor : ℕ

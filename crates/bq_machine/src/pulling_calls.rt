@@ -24,7 +24,7 @@ impl<Q: RunQueue + Drop, K: Clock + Drop, N: Naming + Counting, const P: usize> 
     N,
     P,
 > {
-    /// Takes a task from the queue of another processor, if the policy or the rule chooses one. Allocates the record.
+    /// Takes a task from the queue of another processor, if the policy or the discipline chooses one. Allocates the record.
     ///
     /// Records nothing if one of the processors does not exist, both are the same, or memory runs out.
     pub fn pull<R: Wait>(

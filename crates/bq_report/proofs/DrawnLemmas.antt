@@ -56,6 +56,7 @@ pub drawn_by_none : (w : Window) (names : NamedTasks) (tasks : List ℕ) (rows :
 drawn_by_none w names tasks rows e found wanted text are is =
     ([], subst (λ o. IsDrawnBy w names tasks rows e o []) (sym is ∙ are) refl, sym (append-nil text))
 
+-- parts of a text that are joined from the left are the same joined from the right
 regroup : (old a b c : List ℕ) → ((old ++ a) ++ b) ++ c ≡ old ++ (a ++ (b ++ c))
 regroup old a b c = simp append_assoc
 

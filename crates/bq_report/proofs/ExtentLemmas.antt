@@ -11,7 +11,7 @@ use Rattle.bq_report.specs.declared.extent.Extent.{Extent}
 use Rattle.bq_report.specs.Windows.{ShowsProcessor}
 use Rattle.bq_report.specs.Extents.{IsFirstReading, IsLastReading, SpansReadings}
 
--- these are the earliest first and the latest last reading of the first processors, this many,, or the ends of time where none was read
+-- the earliest first and the latest last reading of the first processors, this many, or the ends of time where none was read
 pub record Read (w : Window) (s : Figures) (count first last : ℕ) : Type 0 where
   pub is_first : (first ≡ 2 ^ 64 - 1) ⊎ IsFirstReading w s first
   pub is_last : (last ≡ 0) ⊎ IsLastReading w s last
@@ -34,6 +34,7 @@ read_passed w s count first last out r = record {
   ];
 }
 
+-- the earlier of two first readings is one, and the later of two last ones, or the one where there was none before:
 first_of_both : (w : Window) (s : Figures) (first reading : ℕ) → (first ≡ 2 ^ 64 - 1) ⊎ IsFirstReading w s first
     → IsFirstReading w s reading → (min first reading ≡ 2 ^ 64 - 1) ⊎ IsFirstReading w s (min first reading)
 first_of_both w s first reading before here = elim (cases_lt first reading) [
@@ -67,6 +68,7 @@ read_more w s count first last reading shows known r = record {
   ];
 }
 
+-- the greater of two numbers by their order is the greater
 greater : (a b : ℕ) → ord_max nat_cmp a b ≡ max a b
 greater a b = grind (arith, nat_tests)
 

@@ -29,10 +29,12 @@ use Rattle.bq_report.specs.Windows.{ShowsProcessor}
 use Rattle.bq_report.proofs.LongestLemmas.{time_pushed, time_pushed_other}
 use Rattle.bq_report.proofs.ReportLemmas.{AreParts-more, AreParts-none, AreParts-same, part_missing, part_there}
 
+-- whether each of these is a character of ASCII
 abbrev are_ascii : List ℕ → Bool
 are_ascii [] = true
 are_ascii (letter ∷ rest) = nat_lt letter 128 && are_ascii rest
 
+-- of such a list each place holds a character of ASCII, and `*` stands for what is past its end
 ascii_at : (l : List ℕ) → are_ascii l ≡ true → (place : ℕ) → get_or l place 42 < 128
 ascii_at [] h place = omega arith
 ascii_at (letter ∷ rest) h zero = (Decides-ltb letter 128).0 (and_parts (nat_lt letter 128) (are_ascii rest) h).0
@@ -81,12 +83,14 @@ runs_next e runs i d first then last lt before one =
     notes_of e (take i runs ++ (get_or runs i d ∷ [])) (take (i + 1) runs) [] [] first last (sym (take_more runs i d lt)) refl
     (notes_joined e (take i runs) (get_or runs i d ∷ []) [] [] first then last before one)
 
+-- a key is found at an equal number, and at no other:
 here : (a b : ℕ) → a ≡ b → is_at (nat_cmp a) b ≡ true
 here a b is = grind (arith, nat_tests)
 
 apart : (a b : ℕ) → a ≢ b → is_at (nat_cmp a) b ≡ false
 apart a b not = grind (arith, nat_tests)
 
+-- among columns with one more at the end, any other than that one is among those before
 other_column : (before : List Column) (column wanted : Column)
     → ¬ (column ≡ wanted) → Contains (before ++ (column ∷ [])) wanted → Contains before wanted
 other_column before column wanted not stands = elim (Contains-push_cases before column wanted stands) [
@@ -107,11 +111,13 @@ same_known b c before column wanted is not known = (
 now_known : (c : Bool) (before : List Column) (column : Column) → c ≡ true → (IsTrue c ↔ Contains (before ++ (column ∷ [])) column)
 now_known c before column is = (λ h. Contains-push before column, λ stands. is)
 
+-- the task of a column, 0 if it shows none
 task_of : Column → ℕ
 task_of (Task task) = task
 task_of Hidden = 0
 task_of Idle = 0
 
+-- with no more runs, a legend that has noted the same tasks as running knows all that run
 same_ran : (e : Extent) (ran : List Slice) (old new : Legend) → new.ran ≡ old.ran
     → ((task : ℕ) → IsTrue (contains nat_cmp old.ran task) ↔ RunsIn e ran task)
     → (task : ℕ) → IsTrue (contains nat_cmp new.ran task) ↔ RunsIn e (ran ++ []) task
@@ -200,6 +206,7 @@ line_added names columns place task old written noted ended write note end = (
       ∙ append_assoc old (lettered_task names place task) (note.0 ++ codes "\n"),
 )
 
+-- parts of a text that are joined from the left are the same joined from the right
 regroup : (old a m b n e l : List ℕ) → (((old ++ (a ++ (m ++ b))) ++ n) ++ e) ++ l ≡ old ++ (a ++ (m ++ (b ++ (n ++ (e ++ l)))))
 regroup old a m b n e l = simp append_assoc
 

@@ -19,6 +19,7 @@ counts run task time h = grind (arith, nat_tests)
 counts_not : (run task time : ℕ) → run ≢ task → (if run == task then time else 0) ≡ 0
 counts_not run task time h = grind (arith, nat_tests)
 
+-- one more run adds what it counts to the time of a task
 time_of_more : (from to : ℕ) (runs : List Slice) (i : ℕ) (d : Slice) (task : ℕ) → i < length runs
     → task_time_between from to (take (i + 1) runs) task
     ≡ task_time_between from to (take i runs) task + (if (get_or runs i d).task == task then time_between from to (get_or runs i d) else 0)

@@ -1,4 +1,4 @@
--- What stands between two moments, of runs in the order in which they begin.
+-- The columns of a map: how long runs, in the order in which they begin, last between two moments.
 use Rattle.std.proofs.Common.{◌≡◌, ◌∙◌, ℕ, suc, ◌+◌, ◌<◌, ◌≤◌, Bool, true, false, List, [], ◌∷◌, ◌++◌, length, get_or, take, drop, refl, sym, ap, add-one, arith, subst, inl, inr, ◌*◌}
 use Rattle.std.specs.Prelude.{◌==◌, if◌then◌else◌, nat_le, nat_lt, sum_by}
 use Rattle.std.specs.List.{prefix_len}
@@ -24,6 +24,7 @@ InOrder runs = IsNonDecreasingBy (λ (run : Slice). run.from) runs
 abbrev share : ℕ → ℕ → ℕ → Slice → ℕ
 share from to task run = if run.task == task then time_between from to run else 0
 
+-- what counts nothing adds nothing, on a condition or in a sum:
 if_zero : (b : Bool) (n : ℕ) → n ≡ 0 → (if b then n else 0) ≡ 0
 if_zero true n h = h
 if_zero false n h = refl
@@ -35,12 +36,14 @@ all_zero f (run ∷ runs) h =
     let rest : sum_by f runs ≡ 0 = all_zero f runs (λ k d lt. h (suc k) d (omega arith)) in
     omega (arith, sum_by-cons f run runs, here, rest)
 
+-- a number that is not less than another is no less, and one that is told to be at most another is:
 lt_false : (x y : ℕ) → nat_lt x y ≡ false → y ≤ x
 lt_false x y h = grind (arith, nat_tests)
 
 le_true : (x y : ℕ) → nat_le x y ≡ true → x ≤ y
 le_true x y h = grind (arith, nat_tests)
 
+-- a run that begins no earlier than the second of two moments, or is over by the first, lasts no time between them:
 later_zero : (from to : ℕ) (run : Slice) → to ≤ run.from → time_between from to run ≡ 0
 later_zero from to run h = omega arith
 
@@ -103,6 +106,7 @@ sorted_times old new same from to = record {
   all = sum_by-IsPermutation (time_between from to) old new same;
 }
 
+-- by runs that last as long the same task runs longest, and none runs where none did:
 longest_as : (from to : ℕ) (a b : List Slice) (task : ℕ) → LastAsLong from to a b → IsLongest from to a task → IsLongest from to b task
 longest_as from to a b task same l = record {
   there = l.there;
@@ -118,6 +122,7 @@ none_as from to a b same none task h = sym (same.each task) ∙ none task h
 last_through : (from to : ℕ) (a b c : List Slice) → LastAsLong from to a b → LastAsLong from to b c → LastAsLong from to a c
 last_through from to a b c one two = record { each = λ task. one.each task ∙ two.each task; all = one.all ∙ two.all }
 
+-- if some runs last as long as others, the others last as long as they
 last_turned : (from to : ℕ) (a b : List Slice) → LastAsLong from to a b → LastAsLong from to b a
 last_turned from to a b same = record { each = λ task. sym (same.each task); all = sym same.all }
 
@@ -218,6 +223,7 @@ below_all shown hidden g number columns is below = record {
   each = λ n lt. below.each n (omega (arith, lt, is));
 }
 
+-- the columns of runs in another order are those of the runs as they came
 columns_sorted : (shown hidden shown' hidden' : List Slice) (g : Grid) (columns : List Column)
     → IsPermutation shown shown' → IsPermutation hidden hidden'
     → AreColumns (record { shown = shown'; hidden = hidden' }) g columns

@@ -8,6 +8,7 @@ use Rattle.std.proofs.lemmas.Bool.Decides.{nat_tests}
 use Rattle.bq_report.specs.Names.{NamedTasks, IsNaming, Learns, name_of}
 use Rattle.bq_report.proofs.NamingLemmas.{one_naming}
 
+-- a key is found at an equal number, and at no other:
 here : (a b : ℕ) → a ≡ b → is_at (nat_cmp a) b ≡ true
 here a b is = grind (arith, nat_tests)
 

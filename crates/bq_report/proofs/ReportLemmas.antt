@@ -1,4 +1,4 @@
--- Parts of a report, one behind another.
+-- The parts of a report, as text and as JSON, one behind another.
 use Rattle.std.proofs.Common.{◌≡◌, ℕ, ◌+◌, ◌<◌, Bool, true, false, true≢false, IsTrue, List, [], ◌∷◌, ◌++◌, ◌↔◌, refl, ap, sym, ◌∙◌, subst, append_assoc, append-nil, add-one, arith, inl, inr, Option, Some, None, ℤ, pos, negsuc, ◌||◌, ◌≤◌, nat_eq}
 use Rattle.std.specs.Prelude.{codes, IsSorted, IsPermutation}
 use Rattle.std.specs.Ordering.{nat_cmp}
@@ -103,6 +103,7 @@ abbrev pub is_there : List ℕ → Bool
 is_there [] = false
 is_there (byte ∷ bytes) = true
 
+-- text that has lines still has them with more before it, or behind it:
 there_behind : (a b : List ℕ) → is_there b ≡ true → is_there (a ++ b) ≡ true
 there_behind [] b h = h
 there_behind (x ∷ a) b h = refl
@@ -111,6 +112,7 @@ there_before : (a b : List ℕ) → is_there a ≡ true → is_there (a ++ b) �
 there_before [] b h = absurd (true≢false (sym h))
 there_before (x ∷ a) b h = refl
 
+-- a hook at which a policy was asked has a line
 hook_there : (p : ℕ) (name : List ℕ) (h : HookFigures) → 0 < h.asked → is_there (hook_line_if p name h) ≡ true
 hook_there p name h more =
     let e : nat_eq h.asked 0 ≡ false = grind (arith, nat_tests) in
@@ -126,6 +128,7 @@ lines_there p f (inr (inr asked)) =
     there_behind (hook_line_if p (codes "place") f.place) _
     (there_behind (hook_line_if p (codes "preempt") f.preempt) _ (hook_there p (codes "pull") f.pull asked))
 
+-- more lines stand behind those before them, or under the head where there were none
 under_more : (lines own : List ℕ) → is_there own ≡ true
     → under_hook_head (lines ++ own) ≡ under_hook_head lines ++ (hook_head_unless (is_there lines) ++ own)
 under_more [] [] h = absurd (true≢false (sym h))
@@ -194,10 +197,12 @@ abbrev pub still_first : Bool → List Data → Bool
 still_first first [] = first
 still_first first (d ∷ ds) = false
 
+-- behind an element the next one is not the first, whatever stands between
 still_later : (ds : List Data) → still_first false ds ≡ false
 still_later [] = refl
 still_later (d ∷ ds) = refl
 
+-- one more element stands behind the others, with what precedes it
 elements_last : (first : Bool) (ds : List Data) (d : Data)
     → elements_text first (ds ++ d ∷ []) ≡ elements_text first ds ++ (separator_if (still_first first ds) ++ compact_text d)
 elements_last first [] d = ap (λ t. separator_if first ++ t) (append-nil (compact_text d))
@@ -217,6 +222,7 @@ ElementsBelow Is number first old now =
 pub elements_none : (Is : ℕ → List Data → Type 0) (text : List ℕ) → ElementsBelow Is 0 true text text
 elements_none Is text = ([], AreParts-none Is, sym (append-nil text), refl)
 
+-- behind a last element the next one is not the first
 not_first : (ds : List Data) (d : Data) → false ≡ still_first true (ds ++ d ∷ [])
 not_first [] d = refl
 not_first (e ∷ ds) d = refl
@@ -329,6 +335,7 @@ task_there w names s latencies id p holds are =
     part_there (HasTask w s id) (λ own. (q : Percentiles) × ArePercentiles latencies q × (own ≡ task_object names s id q ∷ []))
     (task_object names s id p ∷ []) holds (p, are, refl)
 
+-- no number or null, no text or null, and no integer is a float:
 no_float_in_number : (o : Option ℕ) → has_float (number_or_null o) ≡ false
 no_float_in_number None = refl
 no_float_in_number (Some n) = refl
@@ -341,6 +348,7 @@ no_float_in_integer : (z : ℤ) → is_float (of_integer z) ≡ false
 no_float_in_integer (pos n) = refl
 no_float_in_integer (negsuc n) = refl
 
+-- of four conditions that fail none holds
 four_false : (a b c d : Bool) → a ≡ false → b ≡ false → c ≡ false → d ≡ false → (a || (b || (c || (d || false)))) ≡ false
 four_false false false false false ea eb ec ed = refl
 four_false true b c d ea eb ec ed = absurd (true≢false ea)
@@ -348,6 +356,7 @@ four_false false true c d ea eb ec ed = absurd (true≢false eb)
 four_false false false true d ea eb ec ed = absurd (true≢false ec)
 four_false false false false true ea eb ec ed = absurd (true≢false ed)
 
+-- no figure of a task's latencies is a float
 no_float_in_latency : (p : Percentiles) → has_float (latency_object p) ≡ false
 no_float_in_latency p =
     four_false (has_float (number_or_null p.greatest)) (has_float (number_or_null p.p50)) (has_float (number_or_null p.p95))
@@ -375,9 +384,11 @@ element_of v d first old new is none added =
 
 -- ---- the wholes
 
+-- parts of a text that are joined from the left are the same joined from the right
 regroup : (t a b c d e f g : List ℕ) → ((((((t ++ a) ++ b) ++ c) ++ d) ++ e) ++ f) ++ g ≡ t ++ (a ++ (b ++ (c ++ (d ++ (e ++ (f ++ g))))))
 regroup t a b c d e f g = simp append_assoc
 
+-- a text that grows by seven parts in turn has grown by all of them, in order
 seven : (t0 t1 t2 t3 t4 t5 t6 t7 a b c d e f g : List ℕ) → t1 ≡ t0 ++ a → t2 ≡ t1 ++ b → t3 ≡ t2 ++ c → t4 ≡ t3 ++ d
     → t5 ≡ t4 ++ e → t6 ≡ t5 ++ f → t7 ≡ t6 ++ g
     → t7 ≡ t0 ++ (a ++ (b ++ (c ++ (d ++ (e ++ (f ++ g))))))

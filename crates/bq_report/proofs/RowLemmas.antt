@@ -13,6 +13,7 @@ use Rattle.csv.specs.Writing.{default_writer, needs_quotes, needs_byte, field_te
 digit_needs_none : (c : ℕ) → 47 < c → c < 58 → needs_byte default_writer c ≡ false
 digit_needs_none c low high = grind (arith, nat_tests)
 
+-- so a number needs no quotes, and is written as its digits:
 needs_quotes-digits : (ds : List ℕ) → all_ascii_digits ds ≡ true → needs_quotes default_writer ds ≡ false
 needs_quotes-digits [] h = refl
 needs_quotes-digits (c ∷ cs) h =
@@ -32,6 +33,7 @@ unfolding fields_text is_blank
 row_text-decimals a b c d ha hb hc hd =
     rw (field_text-decimal a ha, field_text-decimal b hb, field_text-decimal c hc, field_text-decimal d hd) (simp append_assoc)
 
+-- a byte of ASCII is text, and text still is with a number or such a byte before it:
 one_byte : (b : ℕ) → b < 128 → IsAscii (b ∷ [])
 one_byte b h zero = h
 one_byte b h (suc i) = search rules

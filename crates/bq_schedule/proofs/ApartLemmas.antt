@@ -12,9 +12,11 @@ use Rattle.bq_schedule.specs.Slices.{Sight, sight_of, clock_after, clock, runner
 abbrev pub EndBy : ℕ → List Slice → Type 0
 EndBy n xs = All (λ (s : Slice). s.to ≤ n) xs
 
+-- slices that end by some time end by any later one
 end_later : (n k : ℕ) (xs : List Slice) → n ≤ k → EndBy n xs → EndBy k xs
 end_later n k xs le h = All-weaker (λ (s : Slice). s.to ≤ n) (λ (s : Slice). s.to ≤ k) (λ s e. omega (arith, le, e)) xs h
 
+-- slices that stand apart do so with one more that begins when they have ended
 apart-push : (xs : List Slice) (y : Slice) → StandApart xs → All (λ (s : Slice). s.to ≤ y.from) xs → y.from < y.to
     → StandApart (xs ++ y ∷ [])
 apart-push [] y h e lt = (lt, All-nil (λ (next : Slice). y.to ≤ next.from), tt)
@@ -29,6 +31,7 @@ abbrev pub at_only : ℕ → Option Slice → Option Slice
 at_only processor None = None
 at_only processor (Some y) = cond (is_slice_at processor y) (Some y) None
 
+-- one slice that is kept or dropped makes a list of at most one
 filter-one_if : (y : Slice) (b : Bool) → cond b (y ∷ []) [] ≡ option_to_list (cond b (Some y) None)
 filter-one_if y true = refl
 filter-one_if y false = refl
@@ -43,6 +46,7 @@ abbrev pub IsNext : ℕ → ℕ → Option Slice → Type 0
 IsNext c r None = c ≤ r
 IsNext c r (Some y) = (y.from ≡ c) × (y.from < y.to) × (y.to ≤ r)
 
+-- slices that stand apart and end by one reading stand apart with the next slice, and end by the next reading
 grow : (xs : List Slice) (o : Option Slice) (c r : ℕ) → StandApart xs × EndBy c xs → IsNext c r o
     → StandApart (xs ++ option_to_list o) × EndBy r (xs ++ option_to_list o)
 grow xs None c r h n = rw append-nil (h.0, end_later c r xs n h.1)
@@ -51,6 +55,7 @@ grow xs (Some y) c r h n = (
   All-push (λ (s : Slice). s.to ≤ r) xs y (end_later c r xs (omega (arith, n.0, n.1, n.2)) h.1) n.2,
 )
 
+-- a clock that is read, or is not, does not go back
 rises : (b : Bool) (c now : ℕ) → c ≤ cond b (reading c now) c
 rises true c now = omega arith
 rises false c now = omega arith
@@ -70,6 +75,7 @@ next_at x past processor (Some id) false e lt t is = rw lt (rises e (clock proce
 next_at x past processor (Some id) true true lt (inr other) is = absurd (cc)
 next_at x past processor (Some id) true false lt (inl same) is = absurd (cc)
 
+-- so does the slice that a sight shows, if it shows one there
 next_shown : (past : History) (processor : ℕ) (o : Option Sight)
     → IsNext (clock processor past) (clock_after processor (clock processor past) o) (at_only processor (slice_shown past o))
 next_shown past processor None = omega arith

@@ -30,6 +30,7 @@ abbrev pub Shows : Figures → Figures → Option Sight → Type 0
 Shows s s' None = KeepsWorks s s' × KeepsRunning s s'
 Shows s s' (Some x) = KeepsWorks (figures_read x.processor x.now s) s' × RunsAs x.run x.processor s s'
 
+-- a placement, a decision, a block and a pull do to the works, and to who runs, what they show:
 shows-placed : (processor now : ℕ) (d : Decision) (id to : ℕ) (s : Figures)
     → Shows s (placed processor now d id to s) (Some (record { processor = processor; now = now; run = None }))
 shows-placed processor now d id to s =
@@ -88,6 +89,7 @@ shows-pulled processor now d task run s inside =
           (runs-switched Preempted processor at run k inside'),
     )
 
+-- so does a drain; and an admission keeps both, if what follows the task's leaving does:
 shows-drained : (processor now : ℕ) (d : Decision) (run : Option ℕ) (s : Figures)
     → processor < length s.processors
     → Shows s (emptied processor (figures_decided processor now d run s)) (Some (record { processor = processor; now = now; run = Some run }))
@@ -135,6 +137,7 @@ shows-nothing s (Block processor now) (Went task run) none h = absurd (not_below
 shows-nothing s (Pull processor from now) (Pulled task run by steps) none h = absurd (not_below processor (length s.processors) none h)
 shows-nothing s e r none h = (works-id s, running-id s)
 
+-- a reply does what it shows, whether or not its processor is there
 shows-if : (b : Bool) (s : Figures) (e : Event) (r : Reply) → is_there s e ≡ b → IsSightWithin (length s.processors) (sight e r)
     → Shows s (cond b (performed s e r) s) (sight e r)
 shows-if true s e r there h = shows-performed s e r there
@@ -193,6 +196,7 @@ pub processor-read_at : (processor now j : ℕ) (s : Figures) → j < length s.p
     ≡ cond (eqb processor j) (processor_read processor (processor_in_figures s processor) now) (processor_in_figures s j)
 processor-read_at processor now j s inside = works-read_at processor now j s inside (eqb processor j) (eqb_tells processor j)
 
+-- what a reading makes of the last reading of a processor, its own or another:
 last-cond : (b : Bool) (p q : ProcessorFigures) → (cond b p q).last ≡ cond b p.last q.last
 last-cond true p q = refl
 last-cond false p q = refl
@@ -215,6 +219,7 @@ last-shown s s' (Some x) j inside h =
     ∙ last-cond (eqb x.processor j) _ _
     ∙ last-same x.processor x.now j s (eqb x.processor j) (eqb_tells x.processor j)
 
+-- what is reported of who runs holds at its processor, and each other runs whom it ran
 running_task-at : (o : Option (Option ℕ)) (s s' : Figures) (processor j : ℕ) (b : Bool)
     → ((b ≡ true) × (processor ≡ j)) ⊎ ((b ≡ false) × (processor ≢ j)) → RunsAs o processor s s'
     → running_task (processor_in_figures s' j) ≡ cond b (unwrap_or o (running_task (processor_in_figures s j))) (running_task (processor_in_figures s j))
@@ -231,6 +236,7 @@ pub running_task-shown : (s s' : Figures) (o : Option Sight) (j : ℕ)
 running_task-shown s s' None j h = ap (option_map (λ (x : Start). x.task)) (h.1.at j)
 running_task-shown s s' (Some x) j h = running_task-at x.run s s' x.processor j (eqb x.processor j) (eqb_tells x.processor j) h.1
 
+-- at the opening no clock has been read
 opening-at : (count processor : ℕ) → processor < count → processor_in_figures (opening_figures count) processor ≡ unread
 opening-at count processor inside = get_or-replicate count processor unread unread inside
 

@@ -20,6 +20,7 @@ pub record Stays (s s' : Figures) : Type 0 where
   pub sound : PurseLemmas.IsSound s'
   pub raws : (j : ℕ) → PurseLemmas.uncapped s' j ≡ PurseLemmas.uncapped s j
 
+-- where a task comes to a processor, the weight counted at each is again the sum of the weights there
 weights-joined : (s s' : Figures) (id processor j w : ℕ) (t' : TaskFigures) (b : Bool)
     → PurseLemmas.IsSound s → ((b ≡ true) × (processor ≡ j)) ⊎ ((b ≡ false) × (processor ≢ j))
     → eqb processor j ≡ b → (task_in_figures s id).place ≡ None → t'.place ≡ Some processor
@@ -37,6 +38,7 @@ weights-joined s s' id processor j w t' false h (inr e) is at place weight old s
     let here : weight_there j t' ≡ 0 = weight-elsewhere j processor t' false place is in
     omega (arith, here, old, sums, new, weight-nowhere j (task_in_figures s id) at)
 
+-- a purse that has just come to a processor was given nothing there yet, so it is worth what it had:
 joined-here : (f : ℕ → ℕ) (u : PurseLemmas.Purse) (processor : ℕ) (o : Option ℕ)
     → o ≡ Some processor → u.joined ≡ f processor → PurseLemmas.JoinedBy f u o
 joined-here f u processor o e j = rw e (omega (arith, j))
@@ -125,6 +127,7 @@ joined-outside s id processor p t' h past shared weight =
       raws = λ j. PurseLemmas.raw-kept s s2 j gives (ap PurseLemmas.purse (same j));
     }
 
+-- a task that is nowhere joins a processor, whether or not its id is in the table
 joined-if : (s : Figures) (id processor now : ℕ) (b : Bool) → PurseLemmas.IsSound s → (task_in_figures s id).place ≡ None
     → ((b ≡ true) × (length s.tasks ≤ id)) ⊎ ((b ≡ false) × (id < length s.tasks))
     → Stays s (joins id processor now s)
@@ -139,6 +142,7 @@ pub joined-stays : (s : Figures) (id processor now : ℕ) → PurseLemmas.IsSoun
     → Stays s (joins id processor now s)
 joined-stays s id processor now h at = joined-if s id processor now (leb (length s.tasks) id) h at (leb_tells (length s.tasks) id)
 
+-- of two purses with weights of the table, either has one
 table-cond : (b : Bool) (u v : PurseLemmas.Purse) → u.weight ≤ 88761 → v.weight ≤ 88761 → (cond b u v).weight ≤ 88761
 table-cond true u v h l = h
 table-cond false u v h l = l
@@ -171,6 +175,7 @@ admitted-inside s id t' h inside at place weight accrued =
           (ap (λ o. PurseLemmas.worth_at (PurseLemmas.shared_at s) u o) place ∙ accrued ∙ sym had);
     }
 
+-- one with an id beyond the table changes nothing
 admitted-outside : (s : Figures) (id : ℕ) (t' : TaskFigures) → PurseLemmas.IsSound s → length s.tasks ≤ id → Stays s (figures_with_task s id t')
 admitted-outside s id t' h past =
     let s2 = figures_with_task s id t' in
@@ -188,6 +193,7 @@ admitted-outside s id t' h past =
       raws = λ j. PurseLemmas.raw-kept s s2 j (λ k. refl) (ap PurseLemmas.purse (same j));
     }
 
+-- a task that is nowhere is admitted, whether or not its id is in the table
 admitted-if : (s : Figures) (id : ℕ) (nice : ℤ) (b : Bool) → PurseLemmas.IsSound s → (task_in_figures s id).place ≡ None
     → ((b ≡ true) × (length s.tasks ≤ id)) ⊎ ((b ≡ false) × (id < length s.tasks))
     → Stays s (figures_admitted id nice s)

@@ -57,6 +57,7 @@ pub record Works : Type 0 where
 abbrev pub works : ProcessorFigures → Works
 works p = record { first = p.first; last = p.last; run = p.run; busy = p.busy; shared = p.shared; unshared = p.unshared }
 
+-- a decision that is counted keeps its processor's works, and who runs there:
 works-processor_asked : (p : ProcessorFigures) (d : Decision) (h : Hook) → works (processor_asked p d h) ≡ works p
 works-processor_asked p d Place = refl
 works-processor_asked p d Preempt = refl
@@ -123,6 +124,7 @@ works-asked processor d s = works-with_processor s processor _ (works-processor_
 pub running-asked : (processor : ℕ) (d : Decision) (s : Figures) → KeepsRunning s (figures_asked processor d s)
 running-asked processor d s = running-with_processor s processor _ (running-processor_asked (processor_in_figures s processor) d d.hook)
 
+-- a task that leaves a place, or none, keeps the works, and who runs:
 works-left_from : (id : ℕ) (s : Figures) (place : Option ℕ) → KeepsWorks s (left_from id s place)
 works-left_from id s None = works-id s
 works-left_from id s (Some processor) = works-then _ _ _ (works-with_processor s processor _ refl) (works-with_task _ id _ refl)
@@ -143,6 +145,7 @@ running-leaves id s = running-left_from id s (task_in_figures s id).place
 pub works-joins : (id processor now : ℕ) (s : Figures) → KeepsWorks s (joins id processor now s)
 works-joins id processor now s = works-then _ _ _ (works-with_processor s processor _ refl) (works-with_task _ id _ refl)
 
+-- a task that joins a processor keeps who runs
 running-joins : (id processor now : ℕ) (s : Figures) → KeepsRunning s (joins id processor now s)
 running-joins id processor now s = running-then _ _ _ (running-with_processor s processor _ refl) (running-with_task _ id _)
 
@@ -166,6 +169,7 @@ running-taken processor now None s = running-id s
 running-taken processor now (Some id) s =
     running-then _ _ _ (running-with_task s id _) (running-comes id processor now (waited_there id now s))
 
+-- a latency that is counted keeps the task's time
 time-with_latency : (t : TaskFigures) (n : Option ℕ) → (with_latency t n).time ≡ t.time
 time-with_latency t None = refl
 time-with_latency t (Some n) = refl
@@ -176,11 +180,13 @@ works-stopped left now None s = works-id s
 works-stopped Blocked now (Some old) s = works-id s
 works-stopped Preempted now (Some old) s = works-with_task s old.task _ refl
 
+-- what is counted of a task that ceases to run keeps who runs
 running-stopped : (left : Left) (now : ℕ) (running : Option Start) (s : Figures) → KeepsRunning s (stopped left now running s)
 running-stopped left now None s = running-id s
 running-stopped Blocked now (Some old) s = running-id s
 running-stopped Preempted now (Some old) s = running-with_task s old.task _
 
+-- a task that begins to run, or none, keeps the works
 works-begun_if : (processor now : ℕ) (run : Option ℕ) (s : Figures) → KeepsWorks s (begun_if processor now run s)
 works-begun_if processor now None s = works-id s
 works-begun_if processor now (Some id) s = works-with_task s id _ (time-with_latency (task_in_figures s id) _)
@@ -190,10 +196,12 @@ pub processors-begun_if : (processor now : ℕ) (run : Option ℕ) (s : Figures)
 processors-begun_if processor now None s = refl
 processors-begun_if processor now (Some id) s = refl
 
+-- a processor that is set to run a task, or none, keeps its works
 works-processor_runs : (p : ProcessorFigures) (o : Option Start) → works (processor_runs p o) ≡ works p
 works-processor_runs p None = refl
 works-processor_runs p (Some start) = refl
 
+-- a start at a processor keeps the works, and so does a switch, whether another task runs or not:
 works-started : (processor now : ℕ) (run : Option ℕ) (s : Figures) → KeepsWorks s (started processor now run s)
 works-started processor now run s =
     let e : processor_in_figures (begun_if processor now run s) processor ≡ processor_in_figures s processor =
@@ -232,11 +240,13 @@ pub runs-before : (o : Option (Option ℕ)) (processor : ℕ) (s t u : Figures)
 runs-before None processor s t u a b = running-then s t u a b
 runs-before (Some run) processor s t u a b = (ap (option_map (λ (x : Start). x.task)) (b.at processor) ∙ a.0, λ j ne. b.at j ∙ a.1 j ne)
 
+-- the task that a processor is set to run is the one that runs there
 running_task-processor_runs : (p : ProcessorFigures) (processor now : ℕ) (run : Option ℕ) (s : Figures)
     → running_task (processor_runs p (starts_as processor now run s)) ≡ run
 running_task-processor_runs p processor now None s = refl
 running_task-processor_runs p processor now (Some id) s = refl
 
+-- after a start the processor runs the task that starts, and each other what it ran
 runs-started : (processor now : ℕ) (run : Option ℕ) (s : Figures)
     → processor < length s.processors → RunsAs (Some run) processor s (started processor now run s)
 runs-started processor now run s inside =
@@ -257,6 +267,7 @@ who_is None (Some id) e = cc
 who_is (Some start) None e = cc
 who_is (Some start) (Some id) e = grind (arith, nat_tests)
 
+-- so it is after a switch, whether another task runs or not
 runs-switched_if : (b : Bool) (left : Left) (processor now : ℕ) (run : Option ℕ) (s : Figures)
     → is_run_by (processor_in_figures s processor).running run ≡ b → processor < length s.processors
     → RunsAs (Some run) processor s (cond b s (started processor now run (stopped left now (processor_in_figures s processor).running s)))
@@ -273,6 +284,7 @@ pub runs-switched : (left : Left) (processor now : ℕ) (run : Option ℕ) (s : 
 runs-switched left processor now run s inside =
     runs-switched_if (is_run_by (processor_in_figures s processor).running run) left processor now run s refl inside
 
+-- to charge a task for a slice keeps who runs
 running-with_charged : (s : Figures) (o : Option Slice) → KeepsRunning s (with_charged s o)
 running-with_charged s None = running-id s
 running-with_charged s (Some x) = running-with_task s x.task _
@@ -281,6 +293,7 @@ running-with_charged s (Some x) = running-with_task s x.task _
 pub running-read_at : (processor now : ℕ) (s : Figures) → KeepsRunning s (figures_read processor now s)
 running-read_at processor now s = running-then _ _ _ (running-with_processor s processor _ refl) (running-with_charged _ _)
 
+-- to charge a task for a slice changes no processor
 count-with_charged : (s : Figures) (o : Option Slice) → (with_charged s o).processors ≡ s.processors
 count-with_charged s None = refl
 count-with_charged s (Some x) = refl
@@ -295,6 +308,7 @@ pub count-read_at : (processor now : ℕ) (s : Figures) → length (figures_read
 count-read_at processor now s =
     ap (λ (l : List ProcessorFigures). length l) (processors-read_at processor now s) ∙ length-set s.processors processor _
 
+-- to charge a task for a slice leaves as many tasks as before
 tasks-with_charged : (s : Figures) (o : Option Slice) → length (with_charged s o).tasks ≡ length s.tasks
 tasks-with_charged s None = refl
 tasks-with_charged s (Some x) = length-set s.tasks x.task _

@@ -21,6 +21,7 @@ most : List ℕ → ℕ
 most [] = 0
 most (x ∷ xs) = max x (most xs)
 
+-- no number of a list is above its greatest, and the greatest weight of the table is 88761:
 get_or-le-most : (xs : List ℕ) (i : ℕ) → get_or xs i 0 ≤ most xs
 unfolding most
 get_or-le-most [] i = omega arith
@@ -31,6 +32,7 @@ greatest : most weights ≡ 88761
 unfolding most
 greatest = refl
 
+-- no weight is above that, nor is one in whose place 0 may stand:
 weight_of-le : (nice : ℤ) → weight_of nice ≤ 88761
 weight_of-le (pos n) = omega (arith, greatest, get_or-le-most weights (20 + n))
 weight_of-le (negsuc n) = omega (arith, greatest, get_or-le-most weights (19 - n))
@@ -74,6 +76,7 @@ pub weights-set : (s : Figures) (id processor : ℕ) (t : TaskFigures)
     → weights_at (figures_with_task s id t) processor + weight_there processor (task_in_figures s id) ≡ weights_at s processor + weight_there processor t
 weights-set s id processor t inside = sum_by-set (weight_there processor) s.tasks id t unknown inside
 
+-- a weight that counts or not counts for at most 88761
 there-le : (b : Bool) (n : ℕ) → n ≤ 88761 → cond b n 0 ≤ 88761
 there-le true n h = h
 there-le false n h = omega arith
@@ -116,6 +119,7 @@ pub record Leaves (id : ℕ) (s s' : Figures) : Type 0 where
   pub raws : (j : ℕ) → PurseLemmas.uncapped s' j ≡ PurseLemmas.uncapped s j
   pub nowhere : (task_in_figures s' id).place ≡ None
 
+-- where a task leaves a processor, the weight counted at each is again the sum of the weights there
 weights-left : (s s' : Figures) (id processor j : ℕ) (b : Bool) (w : ℕ)
     → ((b ≡ true) × (processor ≡ j)) ⊎ ((b ≡ false) × (processor ≢ j)) → eqb processor j ≡ b
     → id < length s.tasks → (task_in_figures s id).place ≡ Some processor → (processor_in_figures s j).weight ≡ weights_at s j
@@ -140,6 +144,7 @@ worth f u = PurseLemmas.worth_at f u u.place
 abbrev pub HasJoined : (ℕ → ℕ) → PurseLemmas.Purse → Type 0
 HasJoined f u = PurseLemmas.JoinedBy f u u.place
 
+-- of two purses that came after what was given, either did
 cond-joined : (f : ℕ → ℕ) (b : Bool) (u v : PurseLemmas.Purse) → HasJoined f u → HasJoined f v → HasJoined f (cond b u v)
 cond-joined f true u v h k = h
 cond-joined f false u v h k = k
@@ -157,6 +162,7 @@ joined-set s s' j u b gives is new old =
     (PurseLemmas.purse (task_in_figures s' j)) (cond b u (PurseLemmas.purse (task_in_figures s j))) is
     (cond-joined (PurseLemmas.shared_at s) b u (PurseLemmas.purse (task_in_figures s j)) new old))
 
+-- where a purse is put for a task's own and is worth as much, each task has what it had
 worth-cond : (s : Figures) (id j : ℕ) (u : PurseLemmas.Purse) (b : Bool)
     → ((b ≡ true) × (id ≡ j)) ⊎ ((b ≡ false) × (id ≢ j)) → worth (PurseLemmas.shared_at s) u ≡ PurseLemmas.uncapped s id
     → worth (PurseLemmas.shared_at s) (cond b u (PurseLemmas.purse (task_in_figures s j))) ≡ PurseLemmas.uncapped s j
@@ -176,6 +182,7 @@ raw-set s s' id j u gives is same =
     (task_in_figures s' j).place gives
     ∙ ap (λ v. worth (PurseLemmas.shared_at s) v) is ∙ worth-cond s id j u (eqb id j) (eqb_tells id j) same
 
+-- a task that leaves its processor, with its weight taken off there and what it has put by, keeps what it has
 left-one : (s : Figures) (id processor : ℕ) (p : ProcessorFigures) (t' : TaskFigures)
     → PurseLemmas.IsSound s → (task_in_figures s id).place ≡ Some processor → p.shared ≡ PurseLemmas.shared_at s processor
     → p.weight ≡ (processor_in_figures s processor).weight - (task_in_figures s id).weight → t'.place ≡ None
@@ -206,6 +213,7 @@ left-one s id processor p t' h at shared weight nowhere same accrued =
       nowhere = ap (λ (v : TaskFigures). v.place) (get_or-set_same s.tasks id t' unknown inside) ∙ nowhere;
     }
 
+-- so does one that leaves its place, if it has one
 left-if : (s : Figures) (id : ℕ) (o : Option ℕ) → PurseLemmas.IsSound s → (task_in_figures s id).place ≡ o
     → PurseLemmas.uncapped s id ≤ 340282366920938463463374607431768211455
     → Leaves id s (left_from id s o)

@@ -5,6 +5,7 @@ use Rattle.bq_schedule.specs.declared.figures.ProcessorFigures.{ProcessorFigures
 use Rattle.bq_schedule.specs.Figures.{Figures, processor_in_figures, unread}
 use Rattle.bq_schedule.specs.Observed.{observed_time, first_readings, last_readings}
 
+-- the least number so far never grows, and the greatest never falls:
 fold_min-le : (a b : ℕ) (xs : List ℕ) → a ≤ b → fold min a xs ≤ b
 fold_min-le a b [] h = h
 fold_min-le a b (x ∷ xs) h = fold_min-le (min a x) b xs (omega arith)
@@ -13,6 +14,7 @@ fold_max-ge : (a b : ℕ) (xs : List ℕ) → b ≤ a → b ≤ fold max a xs
 fold_max-ge a b [] h = h
 fold_max-ge a b (x ∷ xs) h = fold_max-ge (max a x) b xs (omega arith)
 
+-- the least is no greater than any number of the list, and the greatest no less:
 fold_min-le_at : (a : ℕ) (xs : List ℕ) (k d : ℕ) → k < length xs → fold min a xs ≤ get_or xs k d
 fold_min-le_at a [] k d h = absurd (omega (arith, h))
 fold_min-le_at a (x ∷ xs) zero d h = fold_min-le (min a x) x xs (omega arith)
@@ -35,6 +37,7 @@ greatest-ge [] x (k, h, e) = absurd (omega (arith, h))
 greatest-ge (y ∷ xs) x (zero, h, e) = fold_max-ge y x xs (omega (arith, e))
 greatest-ge (y ∷ xs) x (suc k, h, e) = subst (λ n. n ≤ fold max y xs) e (fold_max-ge_at y xs k x (omega (arith, h)))
 
+-- what a list holds it still holds with one more in front, put there always or on a condition:
 Contains-cons : {X : Type 0} (y : X) (xs : List X) (x : X) → Contains xs x → Contains (y ∷ xs) x
 Contains-cons {X} y xs x (k, h, e) = (suc k, omega (arith, h), e)
 
@@ -47,6 +50,7 @@ last-cons : (b : Bool) (p : ProcessorFigures) (ps : List ProcessorFigures) (x : 
 last-cons false p ps x h = h
 last-cons true p ps x h = Contains-cons p.last (map (λ (p : ProcessorFigures). p.last) ps) x h
 
+-- of a processor whose clock was read, the first and the last reading are among those of all:
 first-is_in : (ps : List ProcessorFigures) (i first : ℕ) (d : ProcessorFigures) → i < length ps → (get_or ps i d).first ≡ Some first
     → Contains (filter_map (λ (p : ProcessorFigures). p.first) ps) first
 first-is_in [] i first d h e = absurd (omega (arith, h))

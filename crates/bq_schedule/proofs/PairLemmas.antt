@@ -40,6 +40,7 @@ Pairs j running running' stop start =
     option_to_list running ++ filter (is_start_at j) (option_to_list start)
     ≡ map (λ (sp : Stop). sp.start) (filter (is_stop_at j) (option_to_list stop)) ++ option_to_list running'
 
+-- where nothing starts or stops at a processor and what runs stays, starts and stops pair there
 pairs-none : (j : ℕ) (running running' : Option Start) (stop : Option Stop) (start : Option Start)
     → filter (is_stop_at j) (option_to_list stop) ≡ [] → filter (is_start_at j) (option_to_list start) ≡ []
     → running' ≡ running
@@ -48,6 +49,7 @@ pairs-none j running running' stop start stops starts same =
     ap (λ l. option_to_list running ++ l) starts ∙ append-nil (option_to_list running) ∙ ap (λ o. option_to_list o) (sym same)
     ∙ ap (λ l. map (λ (sp : Stop). sp.start) l ++ option_to_list running') (sym stops)
 
+-- where a task stops and another starts, or none, the stop ends the start that ran, and the new start runs
 pairs-new : (j at : ℕ) (left : Left) (running start : Option Start)
     → ((st : Start) → running ≡ Some st → st.processor ≡ j) → ((st : Start) → start ≡ Some st → st.processor ≡ j)
     → Pairs j running start (stop_of left at running) start
@@ -57,6 +59,7 @@ pairs-new j at left (Some old) start ran begun =
     rw (ran old refl) (rw (eq-eqb j j refl) refl) in
     ap (λ l. old ∷ l) (filter-starts j start begun) ∙ ap (λ l. map (λ (sp : Stop). sp.start) l ++ option_to_list start) (sym stops)
 
+-- a switch pairs starts and stops at its processor, whether another task runs or not
 pairs-if : (b : Bool) (j processor at : ℕ) (left : Left) (run : Option ℕ) (u : Figures) (running running' : Option Start)
     (stop : Option Stop) (start : Option Start)
     → processor ≡ j → ((st : Start) → running ≡ Some st → st.processor ≡ j) → stop ≡ cond b None (stop_of left at running)
@@ -73,6 +76,7 @@ pairs-if false j processor at left run u running running' stop start same ran st
     pairs-new j at left running (starts_as processor at run u) ran begun in
     rw (stops, starts, runs) p1
 
+-- a switch pairs starts and stops at each processor, its own and the others
 pairs-there : (s s' : Figures) (left : Left) (processor at : ℕ) (run : Option ℕ) (stop : Option Stop)
     (start : Option Start) (j : ℕ) (b : Bool)
     → Switches s s' left processor at run stop start → ((b ≡ true) × (processor ≡ j)) ⊎ ((b ≡ false) × (processor ≢ j))
@@ -95,6 +99,7 @@ pairs-there s s' left processor at run stop start j b t (inr other) here =
     (λ st e is. other.1 (sym (start_if (is_run_by running run) running processor at run t.before st refl (sym t.starts ∙ e)).here ∙ is)))
     (t.others j (λ is. other.1 (sym is)))
 
+-- so does an answer, whether it says who runs or not
 pairs-run : (s s' : Figures) (left : Left) (processor at : ℕ) (o : Option (Option ℕ)) (stop : Option Stop)
     (start : Option Start) (j : ℕ)
     → ReportsRunning s s' left processor at o stop start
@@ -107,10 +112,12 @@ pairs-run s s' left processor at None stop start j t here =
 pairs-run s s' left processor at (Some run) stop start j t here =
     pairs-there s s' left processor at run stop start j (eqb processor j) t (eqb_tells processor j) here
 
+-- either of two processors that are there is there
 is_inside : (count i j processor : ℕ) → (i ≡ j) ⊎ (i ≡ processor) → j < count → processor < count → i < count
 is_inside count i j processor (inl e) a b = omega arith
 is_inside count i j processor (inr e) a b = omega arith
 
+-- each moment of a history pairs starts and stops at each processor
 pairs-shown : (count : ℕ) (past : History) (s' : Figures) (e : Event) (o : Option Sight) (stop : Option Stop)
     (start : Option Start) (j : ℕ)
     → IsOfProcessors count past → IsSightWithin count o → j < count → ReportsSwitch (figures count past) s' e o stop start
@@ -123,6 +130,7 @@ pairs-shown count past s' e (Some x) stop start j h w inside t =
     pairs-run (figures count past) s' (why_left e) x.processor (time_at x.processor x.now (figures count past)) x.run stop
     start j t (λ i st which is. runs_here count past h i st (is_inside count i j x.processor which inside w) is)
 
+-- starts and stops that pair up to a moment, and at that moment, pair together
 grown-pairs : (a r f r' : List Start) (b g : List Stop) → a ≡ map (λ (sp : Stop). sp.start) b ++ r
     → r ++ f ≡ map (λ (sp : Stop). sp.start) g ++ r'
     → a ++ f ≡ map (λ (sp : Stop). sp.start) (b ++ g) ++ r'

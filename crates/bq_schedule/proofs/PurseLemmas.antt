@@ -79,6 +79,7 @@ pub kept-with_task : (s : Figures) (i : ℕ) (t : TaskFigures) → purse t ≡ p
 kept-with_task s i t e =
     record { pots = λ j. refl; purses = λ id. task_kept purse s i id t e; count = refl; tasks = length-set s.tasks i t }
 
+-- a decision that is counted keeps its processor's pot
 pot-processor_asked : (p : ProcessorFigures) (d : Decision) (h : Hook) → pot (processor_asked p d h) ≡ pot p
 pot-processor_asked p d Place = refl
 pot-processor_asked p d Preempt = refl
@@ -88,10 +89,12 @@ pot-processor_asked p d Pull = refl
 pub kept-asked : (processor : ℕ) (d : Decision) (s : Figures) → KeepsPurses s (figures_asked processor d s)
 kept-asked processor d s = kept-with_processor s processor _ (pot-processor_asked (processor_in_figures s processor) d d.hook)
 
+-- a latency that is counted keeps the task's purse
 purse-with_latency : (t : TaskFigures) (n : Option ℕ) → purse (with_latency t n) ≡ purse t
 purse-with_latency t None = refl
 purse-with_latency t (Some n) = refl
 
+-- what is counted of a task that ceases to run, and of one that begins, keeps purses and pots:
 kept-stopped : (left : Left) (now : ℕ) (running : Option Start) (s : Figures) → KeepsPurses s (stopped left now running s)
 kept-stopped left now None s = kept-id s
 kept-stopped Blocked now (Some old) s = kept-id s
@@ -101,10 +104,12 @@ kept-begun_if : (processor now : ℕ) (run : Option ℕ) (s : Figures) → Keeps
 kept-begun_if processor now None s = kept-id s
 kept-begun_if processor now (Some id) s = kept-with_task s id _ (purse-with_latency (task_in_figures s id) _)
 
+-- a processor that is set to run a task, or none, keeps its pot
 pot-processor_runs : (p : ProcessorFigures) (o : Option Start) → pot (processor_runs p o) ≡ pot p
 pot-processor_runs p None = refl
 pot-processor_runs p (Some start) = refl
 
+-- a start at a processor keeps purses and pots, and so does a switch, whether another task runs or not:
 kept-started : (processor now : ℕ) (run : Option ℕ) (s : Figures) → KeepsPurses s (started processor now run s)
 kept-started processor now run s =
     let e : processor_in_figures (begun_if processor now run s) processor ≡ processor_in_figures s processor =

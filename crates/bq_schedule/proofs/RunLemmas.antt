@@ -38,9 +38,11 @@ joined-one x r y true false d is on next same = rw (on, is) refl
 joined-one x r y false true d is on next same = rw (on, next, same refl) refl
 joined-one x r y false false d is on next same = rw (on, is) refl
 
+-- where a slice continues another, what continues the second continues the two joined, and nothing else does
 same_task : (x r y : Slice) → continues_run x r ≡ true → continues_run (record x { to = r.to }) y ≡ continues_run r y
 same_task x r y e = ap (λ k. eqb k y.task && eqb r.to y.from) (eqb-true x.task r.task (and_parts (eqb x.task r.task) (eqb x.to r.from) e).0)
 
+-- the same where more than one run stands between, and then for any runs:
 joined-many : (x r q y : Slice) (rs : List Slice) (c : Bool) → continues_run x r ≡ c
     → cond c (record x { to = r.to } ∷ last_joined (q ∷ rs) y) (x ∷ r ∷ last_joined (q ∷ rs) y)
     ≡ last_joined (cond c (record x { to = r.to } ∷ q ∷ rs) (x ∷ r ∷ q ∷ rs)) y
@@ -53,6 +55,7 @@ joined-last x y (r ∷ []) =
     joined-one x r y (continues_run r y) (continues_run x r) (continues_run (record x { to = r.to }) y) refl refl refl (same_task x r y)
 joined-last x y (r ∷ (q ∷ rs)) = joined-many x r q y rs (continues_run x r) refl
 
+-- the runs of slices with one more at the end are the runs before, with that slice joined to the last
 runs-push : (xs : List Slice) (y : Slice) → runs (xs ++ y ∷ []) ≡ last_joined (runs xs) y
 runs-push [] y = refl
 runs-push (x ∷ xs) y = ap (slice_joined x) (runs-push xs y) ∙ joined-last x y (runs xs)
@@ -63,6 +66,7 @@ last-front [] r y = refl
 last-front (f ∷ []) r y = refl
 last-front (f ∷ (g ∷ gs)) r y = ap (λ zs. f ∷ zs) (last-front (g ∷ gs) r y)
 
+-- a run that a slice continues goes on with it; one that it does not continue is reported, and the slice goes on
 reported-one : (front : List Slice) (r y : Slice) (b : Bool) → continues_run r y ≡ b
     → front ++ cond b (record r { to = y.to } ∷ []) (r ∷ y ∷ [])
     ≡ (front ++ option_to_list (cond b None (Some r))) ++ option_to_list (cond b (Some (record r { to = y.to })) (Some y))
@@ -74,10 +78,12 @@ pub record AreRuns (reported : List Slice) (run : Option Slice) (xs : List Slice
   pub all : reported ++ option_to_list run ≡ runs xs
   pub first : run ≡ None → reported ≡ []
 
+-- after a slice some run goes on
 some_run : (r y : Slice) (b : Bool) → cond b (Some (record r { to = y.to })) (Some y) ≡ None → ⊥
 some_run r y true e = cc
 some_run r y false e = cc
 
+-- with one more slice, or none, what was reported and what goes on are still the runs
 more : (reported : List Slice) (run o : Option Slice) (xs : List Slice)
     → AreRuns reported run xs
     → AreRuns (reported ++ option_to_list (ended_run run o)) (joined_run run o) (xs ++ option_to_list o)
@@ -106,6 +112,7 @@ abbrev pub run_seen : Figures → Option Sight → Option Slice
 run_seen s None = None
 run_seen s (Some x) = ended_run (processor_in_figures s x.processor).run (slice_at x.processor (processor_in_figures s x.processor) x.now)
 
+-- the run that is reported of an event is the one that its sight ends, by cases:
 seen-performed : (s : Figures) (e : Event) (r : Reply) → (report_of_answer s e r).run ≡ run_seen s (sight e r)
 seen-performed s (EndWake processor now) (Placed task to by steps) = refl
 seen-performed s (Drain processor now) (Drained count run by steps) = refl
@@ -168,6 +175,7 @@ abbrev pub AreReportedRuns : ℕ → ℕ → History → Type 0
 AreReportedRuns count processor past =
     AreRuns (reported_runs count processor past) (processor_in_figures (figures count past) processor).run (slices_at processor past)
 
+-- reports, a run that goes on, and slices may each be put for what equals them
 same_runs : (reported reported' : List Slice) (run run' : Option Slice) (xs xs' : List Slice)
     → reported' ≡ reported → run' ≡ run → xs' ≡ xs → AreRuns reported run xs → AreRuns reported' run' xs'
 same_runs reported reported' run run' xs xs' t r x h = record {
@@ -175,6 +183,7 @@ same_runs reported reported' run run' xs xs' t r x h = record {
   first = λ e. t ∙ h.first (sym r ∙ e);
 }
 
+-- after a moment with a sight, the runs told of a processor and the one that may go on are those of its slices
 reported-there : (count : ℕ) (past : History) (processor : ℕ) (s' : Figures) (x : Sight) (run : Option Slice) (b : Bool)
     → IsOfProcessors count past → IsSightWithin count (Some x) → processor < count → Shows (figures count past) s' (Some x)
     → run ≡ run_seen (figures count past) (Some x) → eqb x.processor processor ≡ b
@@ -204,6 +213,7 @@ reported-there count past processor s' x run false h w inside k is e (inr other)
 reported-there count past processor s' x run true h w inside k is e (inr other) t = absurd (cc)
 reported-there count past processor s' x run false h w inside k is e (inl same) t = absurd (cc)
 
+-- so they are after each moment, with a sight or without
 reported-step : (count : ℕ) (past : History) (processor : ℕ) (s' : Figures) (o : Option Sight) (run : Option Slice)
     → IsOfProcessors count past → IsSightWithin count o → processor < count → Shows (figures count past) s' o
     → run ≡ run_seen (figures count past) o → AreReportedRuns count processor past
@@ -216,6 +226,7 @@ reported-step count past processor s' (Some x) run h w inside k is t =
     reported-there count past processor s' x run (eqb x.processor processor) h w inside k is refl
     (eqb_tells x.processor processor) t
 
+-- so they are in each history
 reported : (count : ℕ) (past : History) (processor : ℕ) → IsOfProcessors count past → processor < count
     → AreReportedRuns count processor past
 reported count [] processor h inside =

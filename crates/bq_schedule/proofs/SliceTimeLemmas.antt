@@ -1,4 +1,4 @@
--- What is reported of each moment is its slice, and the times add up.
+-- The slice that is reported of each moment is the one that it ends, by who runs in its history.
 use Rattle.std.proofs.Common.{◌≡◌, ℕ, Bool, true, false, ◌∷◌, ◌++◌, length, Option, Some, None, Result, Ok, Err, refl, sym, ap, ◌∙◌, cond}
 use Rattle.std.specs.Prelude.{option_to_list}
 use Rattle.std.specs.Option.{option_map}
@@ -24,6 +24,7 @@ abbrev pub slice_seen : Figures → Option Sight → Option Slice
 slice_seen s None = None
 slice_seen s (Some x) = slice_at x.processor (processor_in_figures s x.processor) x.now
 
+-- the slice that is reported of an event is the one that figures show of its sight, by cases:
 seen-performed : (s : Figures) (e : Event) (r : Reply) → (report_of_answer s e r).slice ≡ slice_seen s (sight e r)
 seen-performed s (EndWake processor now) (Placed task to by steps) = refl
 seen-performed s (Drain processor now) (Drained count run by steps) = refl

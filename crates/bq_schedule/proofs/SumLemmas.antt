@@ -27,6 +27,7 @@ abbrev pub time_of : (Slice → Bool) → Option Slice → ℕ
 time_of chosen None = 0
 time_of chosen (Some s) = time_if chosen s
 
+-- one more slice, or none, adds what it is worth
 time_in-more : (chosen : Slice → Bool) (xs : List Slice) (o : Option Slice)
     → time_in chosen (xs ++ option_to_list o) ≡ time_in chosen xs + time_of chosen o
 time_in-more chosen xs None = ap (time_in chosen) (append-nil xs) ∙ omega arith
@@ -36,6 +37,7 @@ time_in-more chosen xs (Some s) = sum_by_push (time_if chosen) xs s
 abbrev pub any : Slice → Bool
 any s = true
 
+-- a length that is chosen or not counts for no more than itself
 time_if-le : (b : Bool) (n : ℕ) → cond b n 0 ≤ n
 time_if-le true n = omega arith
 time_if-le false n = omega arith
@@ -71,6 +73,7 @@ last_of p = p.last
 abbrev pub clocks_of : Figures → ℕ
 clocks_of s = sum_by last_of s.processors
 
+-- a slice between two readings is no longer than what lies between them
 worth-le-rise : (processor from to : ℕ) (running : Option Start) (b : Bool)
     → ltb from to ≡ b → from ≤ to → time_of any (slice_between processor from to running) ≤ to - from
 worth-le-rise processor from to None b e h = omega arith
@@ -82,6 +85,7 @@ slice-le-rise : (processor now : ℕ) (p : ProcessorFigures) → time_of any (sl
 slice-le-rise processor now p =
     omega (arith, worth-le-rise processor p.last (reading p.last now) p.running (ltb p.last (reading p.last now)) refl (omega arith))
 
+-- a reading raises all clocks together by no less than its slice
 clocks-read_at : (processor now : ℕ) (s : Figures) → processor < length s.processors
     → clocks_of s + time_of any (slice_at processor (processor_in_figures s processor) now) ≤ clocks_of (figures_read processor now s)
 clocks-read_at processor now s inside =
@@ -93,9 +97,11 @@ clocks-read_at processor now s inside =
       ap (λ l. sum_by last_of l) (processors-read_at processor now s),
     )
 
+-- what keeps the works keeps all clocks together
 clocks-kept : (s t : Figures) → KeepsWorks s t → clocks_of t ≡ clocks_of s
 clocks-kept s t h = sums_alike last_of t.processors s.processors h.count (λ j. ap (λ (w : Works). w.last) (h.at j))
 
+-- a moment raises all clocks together by no less than its slice
 clocks-shown : (s s' : Figures) (o : Option Sight) → IsSightWithin (length s.processors) o → Shows s s' o
     → clocks_of s + time_of any (slice_seen s o) ≤ clocks_of s'
 clocks-shown s s' None w h = omega (arith, clocks-kept s s' h.0)
@@ -116,6 +122,7 @@ slices-le-clocks count (m ∷ past) h =
       ap (time_of any) (shown-seen count past o h.1 h.0),
     )
 
+-- each clock stays below 2^48, by a reading, by a moment, and in each history:
 short_if : (b : Bool) (last now : ℕ) → last ≤ 281474976710655 → cond b (reading last now) last ≤ 281474976710655
 short_if true last now h = omega arith
 short_if false last now h = h
@@ -154,11 +161,13 @@ task-charged s x id false inside (inr other) =
     ap (λ (t : TaskFigures). t.time)
     (get_or-set_other s.tasks x.task id (task_charged (task_in_figures s x.task) (x.to - x.from)) unknown (λ e. other.1 (sym e)))
 
+-- a sum that fits in 64 bits is counted in full
 saturating_sum-is : (b : Bool) (n more : ℕ) → n + cond b more 0 ≤ 18446744073709551615
     → cond b (saturating_sum n more) n ≡ n + cond b more 0
 saturating_sum-is true n more h = omega arith
 saturating_sum-is false n more h = omega arith
 
+-- a charge adds a slice to the time of its task, and of no other, if the time fits in 64 bits
 time-charged : (s : Figures) (o : Option Slice) (id : ℕ) → id < length s.tasks
     → (task_in_figures s id).time + time_of (is_of id) o ≤ 18446744073709551615
     → (task_in_figures (with_charged s o) id).time ≡ (task_in_figures s id).time + time_of (is_of id) o
@@ -167,6 +176,7 @@ time-charged s (Some x) id inside fits =
     task-charged s x id (eqb x.task id) inside (eqb_tells x.task id)
     ∙ saturating_sum-is (eqb x.task id) (task_in_figures s id).time (x.to - x.from) fits
 
+-- a moment adds its slice to the time of its task, and of no other, if the time fits in 64 bits
 time-shown : (s s' : Figures) (o : Option Sight) (id : ℕ) → id < length s.tasks
     → (task_in_figures s id).time + time_of (is_of id) (slice_seen s o) ≤ 18446744073709551615 → Shows s s' o
     → (task_in_figures s' id).time ≡ (task_in_figures s id).time + time_of (is_of id) (slice_seen s o)
@@ -175,6 +185,7 @@ time-shown s s' (Some x) id inside fits h =
     h.0.times id ∙ time-charged (figures_with_processor s x.processor (processor_read x.processor (processor_in_figures s x.processor) x.now))
     (slice_at x.processor (processor_in_figures s x.processor) x.now) id inside fits
 
+-- after a moment there are as many tasks as before
 tasks-shown : (s s' : Figures) (o : Option Sight) → Shows s s' o → length s'.tasks ≡ length s.tasks
 tasks-shown s s' None h = h.0.tasks
 tasks-shown s s' (Some x) h = h.0.tasks ∙ tasks-read_at x.processor x.now s
@@ -248,6 +259,7 @@ worth-at : (processor j from to : ℕ) (running : Option Start)
 worth-at processor j from to None = sym (worth-none (eqb processor j))
 worth-at processor j from to (Some start) = worth-some processor j from to start (ltb from to)
 
+-- a moment adds its slice to the busy time of its processor, and of no other, if the time fits in 64 bits
 busy-shown : (s s' : Figures) (o : Option Sight) (j : ℕ) → j < length s.processors
     → (processor_in_figures s j).busy + time_of (is_slice_at j) (slice_seen s o) ≤ 18446744073709551615 → Shows s s' o
     → (processor_in_figures s' j).busy ≡ (processor_in_figures s j).busy + time_of (is_slice_at j) (slice_seen s o)

@@ -39,6 +39,7 @@ pub record Switches (s s' : Figures) (left : Left) (processor at : ℕ) (run : O
       ≡ cond (is_run_by (processor_in_figures s processor).running run) (processor_in_figures s processor).running (starts_as processor at run before)
   pub others : (j : ℕ) → j ≢ processor → (processor_in_figures s' j).running ≡ (processor_in_figures s j).running
 
+-- after a switch its processor runs what starts there, or what ran if the task is the same:
 running-processor_runs : (p : ProcessorFigures) (o : Option Start) → (processor_runs p o).running ≡ o
 running-processor_runs p None = refl
 running-processor_runs p (Some start) = refl
@@ -88,6 +89,7 @@ abbrev pub ReportsSwitch : Figures → Figures → Event → Option Sight → Op
 ReportsSwitch s s' e None stop start = (stop ≡ None) × (start ≡ None) × KeepsRunning s s'
 ReportsSwitch s s' e (Some x) stop start = ReportsRunning s s' (why_left e) x.processor (time_at x.processor x.now s) x.run stop start
 
+-- a decision, a block and a pull tell the switch that they make:
 decided-reports : (processor now : ℕ) (d : Decision) (run : Option ℕ) (s s' : Figures)
     → processor < length s.processors → KeepsRunning (figures_decided processor now d run s) s'
     → let t = figures_asked processor d (figures_read processor now s) in
@@ -129,6 +131,7 @@ pulled-reports processor now d task run s inside =
     (omega (arith, count-read_at processor now s, (works-asked processor d r).count, (works-taken processor at task a).count))
     (running-id (figures_pulled processor now d task run s))
 
+-- each reply tells the switch that it shows, by cases:
 performed-reports : (s : Figures) (e : Event) (r : Reply) → is_there s e ≡ true
     → ReportsSwitch s (performed s e r) e (sight e r) (report_of_answer s e r).stop (report_of_answer s e r).start
 performed-reports s (Admit id nice mask slice) Admitted there =
@@ -183,6 +186,7 @@ not_who (Some start) (Some id) e h =
     let same : start.task ≡ id = cc in
     grind (arith, nat_tests)
 
+-- where who ran is another than who is to run, it is told so
 is_new : (running : Option Start) (run : Option ℕ) (b : Bool)
     → is_run_by running run ≡ b → option_map (λ (x : Start). x.task) running ≢ run → b ≡ false
 is_new running run true e ne = absurd (ne (who_is running run e))
@@ -230,6 +234,7 @@ pub of_some : {A : Type 0} (o : Option A) (P : A → Type 0) → ((a : A) → o 
 of_some None P f = tt
 of_some (Some a) P f = f a refl
 
+-- an option that holds something with a property has such a thing
 and_some : {A : Type 0} (o : Option A) (P : A → Type 0) (a : A) → o ≡ Some a → P a → IsSomeAnd o P
 and_some None P a e p = cc
 and_some (Some b) P a e p =
@@ -243,6 +248,7 @@ clock-there j last x e = rw e (rw (eq-eqb x.processor x.processor refl) refl)
 runner-there : (j : ℕ) (w : Option ℕ) (x : Sight) → j ≡ x.processor → runner_after j w (Some x) ≡ unwrap_or x.run w
 runner-there j w x e = rw e (rw (eq-eqb x.processor x.processor refl) refl)
 
+-- a choice between a thing and itself is that thing
 same-cond : (b : Bool) (w : Option ℕ) → cond b w w ≡ w
 same-cond true w = refl
 same-cond false w = refl
@@ -261,6 +267,7 @@ IsStartOf count past o st =
     (st.processor < count) × BeginsWith st.processor st.task past o
     × (st.at ≡ clock_after st.processor (clock st.processor past) o)
 
+-- a start that is told is of a task that begins to run there, at that reading, by what the answer shows:
 start-run : (count : ℕ) (past : History) (processor now : ℕ) (o : Option (Option ℕ)) (s' : Figures) (left : Left)
     (stop : Option Stop) (start : Option Start) (st : Start)
     → IsOfProcessors count past → processor < count
@@ -370,6 +377,7 @@ begun-here false processor at (Some id) u running st e before =
     let x : start_of processor id at (task_in_figures u id) ≡ st = cc in
     ap (λ (y : Start). y.processor) (sym x)
 
+-- where what ran at a processor had begun there, what runs after a moment has too, by cases:
 here-there : (s s' : Figures) (left : Left) (processor at : ℕ) (run : Option ℕ) (stop : Option Stop)
     (start : Option Start) (j : ℕ) (st : Start) (b : Bool)
     → Switches s s' left processor at run stop start → ((b ≡ true) × (processor ≡ j)) ⊎ ((b ≡ false) × (processor ≢ j))
@@ -416,6 +424,7 @@ IsStopOf count past e o sp =
     (sp.start.processor < count) × CeasesWith sp.start.processor sp.start.task past o
     × (sp.at ≡ clock_after sp.start.processor (clock sp.start.processor past) o) × (sp.left ≡ why_left e)
 
+-- a stop that is told is of a task that ceases to run there, at that reading, by what the answer shows:
 stop-run : (count : ℕ) (past : History) (e : Event) (processor now : ℕ) (o : Option (Option ℕ)) (s' : Figures)
     (stop : Option Stop) (start : Option Start) (sp : Stop)
     → IsOfProcessors count past → processor < count
@@ -463,6 +472,7 @@ ceased-reported (Some old) left at j task stop is e here =
     let same : old.task ≡ task = cc in
     and_some stop _ (record { start = old; at = at; left = left }) is (here old refl, same)
 
+-- of each task that ceases to run a stop is told, by cases:
 ceased-there : (count : ℕ) (past : History) (processor now j task : ℕ) (run : Option ℕ) (s' : Figures) (left : Left)
     (stop : Option Stop) (start : Option Start) (b : Bool)
     → IsOfProcessors count past → processor < count

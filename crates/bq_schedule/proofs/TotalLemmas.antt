@@ -50,6 +50,7 @@ pub record IsFull (s : Figures) : Type 0 where
 abbrev pub IsShort : Figures → Type 0
 IsShort s = all_busy s ≤ 71776119061217025
 
+-- what keeps the works keeps the sum of all busy times, and of what was left over:
 busy-kept : (s s' : Figures) → KeepsWorks s s' → all_busy s' ≡ all_busy s
 busy-kept s s' k =
     PurseLemmas.sums_like (λ (p : ProcessorFigures). p.busy) (λ (p : ProcessorFigures). p.busy) unread s'.processors
@@ -83,6 +84,7 @@ small_by s id b f short (inl past) =
 small_by s id b f short (inr inside) =
     omega (arith, f.total, short, get_or-le-sum_by (PurseLemmas.uncapped_of s) s.tasks id unknown inside.1)
 
+-- what any task has fits in 128 bits, if all busy times are short
 small : (s : Figures) (id : ℕ) → IsFull s → IsShort s → PurseLemmas.uncapped s id ≤ 340282366920938463463374607431768211455
 small s id f short = small_by s id (leb (length s.tasks) id) f short (leb_tells (length s.tasks) id)
 
@@ -93,6 +95,7 @@ fair-raw_if : (s : Figures) (t : TaskFigures) (o : Option ℕ)
 fair-raw_if s t None h = refl
 fair-raw_if s t (Some processor) h = omega (arith, h)
 
+-- the fair time of a task is what it has, if all busy times are short
 fair-raw : (s : Figures) (id : ℕ) → IsFull s → IsShort s → fair_of s id ≡ PurseLemmas.uncapped s id
 fair-raw s id f short = fair-raw_if s (task_in_figures s id) (task_in_figures s id).place (small s id f short)
 
@@ -101,6 +104,7 @@ pub record Goes (s s' : Figures) : Type 0 where
   pub keeps : KeepsWorks s s'
   pub goes : IsFull s → IsShort s → Coming.Stays s s'
 
+-- to change nothing is such a move, and so are two such moves one after the other:
 goes-id : (s : Figures) → Goes s s
 goes-id s = record { keeps = works-id s; goes = λ f short. record { sound = f.sound; raws = λ j. refl } }
 
@@ -114,6 +118,7 @@ goes-then s t u a b = record {
       record { sound = next.sound; raws = λ j. next.raws j ∙ first.raws j };
 }
 
+-- what keeps works, purses and pots is such a move
 goes-purses : (s s' : Figures) → KeepsWorks s s' → PurseLemmas.KeepsPurses s s' → Goes s s'
 goes-purses s s' w k = record {
   keeps = w;
@@ -123,6 +128,7 @@ goes-purses s s' w k = record {
   };
 }
 
+-- so is a task set with the same time and purse, a decision that is counted, and an inbox that is drained:
 goes-with_task : (s : Figures) (id : ℕ) (t : TaskFigures) → t.time ≡ (task_in_figures s id).time
     → PurseLemmas.purse t ≡ PurseLemmas.purse (task_in_figures s id)
     → Goes s (figures_with_task s id t)
@@ -134,6 +140,7 @@ goes-asked processor d s = goes-purses s _ (works-asked processor d s) (PurseLem
 goes-emptied : (processor : ℕ) (s : Figures) → Goes s (emptied processor s)
 goes-emptied processor s = goes-purses s _ (works-with_processor s processor _ refl) (PurseLemmas.kept-with_processor s processor _ refl)
 
+-- a task that leaves its processor, comes to one, or is admitted keeps what it has, and so does each other:
 goes-leaves : (id : ℕ) (s : Figures) → Goes s (figures_left id s)
 goes-leaves id s = record {
   keeps = works-leaves id s;
@@ -158,10 +165,12 @@ goes-admitted id nice s = record {
       record { sound = c.sound; raws = λ j. c.raws j ∙ l.raws j };
 }
 
+-- a switch to a task, or to none, is such a move
 goes-switched : (left : Left) (processor now : ℕ) (run : Option ℕ) (s : Figures) → Goes s (figures_switched left processor now run s)
 goes-switched left processor now run s =
     goes-purses s _ (works-switched left processor now run s) (PurseLemmas.kept-switched left processor now run s)
 
+-- a task that is pulled, if there is one, is such a move
 goes-taken : (processor now : ℕ) (task : Option ℕ) (s : Figures) → Goes s (figures_taken processor now task s)
 goes-taken processor now None s = goes-id s
 goes-taken processor now (Some id) s =
@@ -173,6 +182,7 @@ abbrev pub GoesFrom : Figures → Option Sight → Figures → Type 0
 GoesFrom s None s' = Goes s s'
 GoesFrom s (Some x) s' = Goes (figures_read x.processor x.now s) s'
 
+-- after the reading, a decision, a placement, a pull and a block leave each task what it has:
 goes-decided : (processor now : ℕ) (d : Decision) (run : Option ℕ) (s : Figures)
     → Goes (figures_read processor now s) (figures_decided processor now d run s)
 goes-decided processor now d run s =
@@ -203,6 +213,7 @@ goes-blocked processor now id run s =
     let r = figures_read processor now s in
     goes-then r (figures_left id r) _ (goes-leaves id r) (goes-switched Blocked processor (time_at processor now s) run (figures_left id r))
 
+-- after its reading, what a reply does leaves each task what it has
 goes-performed : (s : Figures) (e : Event) (r : Reply) → GoesFrom s (sight e r) (performed s e r)
 goes-performed s (Admit id nice mask slice) Admitted = goes-admitted id nice s
 goes-performed s (EndWake processor now) (Placed task to by steps) =
@@ -218,6 +229,7 @@ goes-performed s (Pull processor from now) (Pulled task run by steps) =
     goes-pulled processor now (record { hook = OnPull; by = by; steps = steps }) task run s
 goes-performed s e r = goes-id s
 
+-- where the event's processor is not there, figures that stay as they are leave each task what it has
 goes-nothing : (s : Figures) (e : Event) (r : Reply) → is_there s e ≡ false → IsSightWithin (length s.processors) (sight e r)
     → GoesFrom s (sight e r) s
 goes-nothing s (EndWake processor now) (Placed task to by steps) none h = absurd (not_below processor (length s.processors) none h)
@@ -227,6 +239,7 @@ goes-nothing s (Block processor now) (Went task run) none h = absurd (not_below 
 goes-nothing s (Pull processor from now) (Pulled task run by steps) none h = absurd (not_below processor (length s.processors) none h)
 goes-nothing s e r none h = goes-id s
 
+-- after its reading an event leaves each task what it has, whether its processor is there, and whether it is refused:
 goes-if : (b : Bool) (s : Figures) (e : Event) (r : Reply) → is_there s e ≡ b → IsSightWithin (length s.processors) (sight e r)
     → GoesFrom s (sight e r) (cond b (performed s e r) s)
 goes-if true s e r there h = goes-performed s e r
@@ -259,6 +272,7 @@ purse-read_at processor now s id =
 abbrev pub given : ℕ → ℕ → Figures → ℕ
 given processor now s = parts_per_weight (slice_length (slice_at processor (processor_in_figures s processor) now)) (processor_in_figures s processor).weight
 
+-- a reading gives its part to each unit of weight at its processor, and nothing elsewhere, if the sum fits in 128 bits:
 shared-read : (processor now j : ℕ) (s : Figures) (b : Bool) → processor < length s.processors
     → PurseLemmas.shared_at s processor + given processor now s ≤ 340282366920938463463374607431768211455
     → ((b ≡ true) × (processor ≡ j)) ⊎ ((b ≡ false) × (processor ≢ j))
@@ -310,6 +324,7 @@ worth-more f g processor part u (Some k) e h =
     worth-more_if f g processor k part u (eqb processor k) (eqb k processor) (eqb_tells processor k)
     (eqb_tells k processor) (e k) h
 
+-- a reading adds to what a task has its weight there times the part of each unit, if that part's sum fits
 raw-read_at : (processor now id : ℕ) (s : Figures) → PurseLemmas.IsSound s → processor < length s.processors
     → PurseLemmas.shared_at s processor + given processor now s ≤ 340282366920938463463374607431768211455
     → PurseLemmas.uncapped (figures_read processor now s) id
@@ -333,6 +348,7 @@ sums_both f g n (x ∷ xs) =
       sums_both f g n xs,
     )
 
+-- a reading leaves all sound, if what its processor has given fits in 128 bits
 sound-read_at : (processor now : ℕ) (s : Figures) → PurseLemmas.IsSound s → processor < length s.processors
     → PurseLemmas.shared_at s processor + given processor now s ≤ 340282366920938463463374607431768211455
     → PurseLemmas.IsSound (figures_read processor now s)
@@ -362,6 +378,7 @@ pub record Reads (processor now : ℕ) (s : Figures) : Type 0 where
       → PurseLemmas.uncapped (figures_read processor now s) id
       ≡ PurseLemmas.uncapped s id + weight_there processor (task_in_figures s id) * given processor now s
 
+-- a reading changes the busy time of its own processor, and of no other
 ahead-read : (processor now j : ℕ) (s : Figures) (b : Bool) → processor < length s.processors
     → ((b ≡ true) × (processor ≡ j)) ⊎ ((b ≡ false) × (processor ≢ j))
     → (processor_in_figures (figures_read processor now s) j).busy
@@ -378,6 +395,7 @@ ahead-read processor now j s false inside (inr e) =
     ∙ ap (λ (p : ProcessorFigures). p.busy)
     (get_or-set_other s.processors processor j (processor_read processor (processor_in_figures s processor) now) unread (λ h. e.1 (sym h)))
 
+-- after a reading no unit of weight was given more than its processor's tasks ran, there or elsewhere
 ahead-if : (s : Figures) (processor j shared busy part time busy' : ℕ) (b : Bool)
     → ((b ≡ true) × (processor ≡ j)) ⊎ ((b ≡ false) × (processor ≢ j)) → IsFull s
     → shared ≡ PurseLemmas.shared_at s j + cond b part 0 → busy ≡ cond b busy' (processor_in_figures s j).busy
@@ -450,6 +468,7 @@ busy-le : (first : Option ℕ) (p : ProcessorFigures) → IsFilled first p.last 
 busy-le None p h = omega (arith, h.0)
 busy-le (Some first) p h = omega (arith, h)
 
+-- in each history of at most 255 processors all busy times are short
 is_short : (count : ℕ) (past : History) → count ≤ 255 → IsOfProcessors count past → IsShort (figures count past)
 is_short count past few h =
     let s = figures count past in
@@ -471,10 +490,12 @@ same_everywhere_if n i x b (inr inside) = get_or-replicate n i x x (omega (arith
 same_everywhere : {X : Type 0} (n i : ℕ) (x : X) → get_or (replicate n x) i x ≡ x
 same_everywhere n i x = same_everywhere_if n i x (leb (length (replicate n x)) i) (leb_tells (length (replicate n x)) i)
 
+-- things of which each counts nothing add up to nothing
 sum-none : {X : Type 0} (f : X → ℕ) (x : X) (n : ℕ) → f x ≡ 0 → sum_by f (replicate n x) ≡ 0
 sum-none f x zero e = refl
 sum-none f x (suc n) e = omega (arith, sum_by-cons f x (replicate n x), e, sum-none f x n e)
 
+-- the opening figures are full: nothing was given yet, and nothing ran
 opening-full : (count : ℕ) → IsFull (opening_figures count)
 opening-full count =
     let s = opening_figures count in
@@ -503,6 +524,7 @@ pub record Rises (s s' : Figures) (o : Option Sight) : Type 0 where
   pub full : IsFull s'
   pub raws : (id : ℕ) → PurseLemmas.uncapped s' id ≡ PurseLemmas.uncapped s id + share s o id
 
+-- an event adds to what each task has its share of the slice, and leaves all full, if what follows its reading is such a move
 rises : (s s' : Figures) (o : Option Sight) → IsFull s → IsShort s → IsShort s'
     → IsSightWithin (length s.processors) o → GoesFrom s o s'
     → Rises s s' o
@@ -524,6 +546,7 @@ rises s s' (Some x) f short short' w g =
           (f.sound.weights x.processor w);
     }
 
+-- each moment of a history adds to what each task has its share of the slice, and leaves all full
 step : (count : ℕ) (past : History) (m : Moment) → count ≤ 255 → IsOfProcessors count (m ∷ past) → IsFull (figures count past)
     → Rises (figures count past) (figures count (m ∷ past)) (sight_of m.event m.answer)
 step count past m few h f =

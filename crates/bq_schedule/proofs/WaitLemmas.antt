@@ -42,6 +42,7 @@ pub record KeepsWaits (s s' : Figures) : Type 0 where
   pub waited : (id : ℕ) → (task_in_figures s' id).waited ≡ (task_in_figures s id).waited
   pub tasks : length s'.tasks ≡ length s.tasks
 
+-- what changes nothing keeps waits; so do two such steps, a task set with the same waits, and a processor that is set:
 same : (s : Figures) → KeepsWaits s s
 same s = record { since = λ id. refl; waited = λ id. refl; tasks = refl }
 
@@ -59,6 +60,7 @@ with_one s i t e f = record {
 of_processor : (s : Figures) (i : ℕ) (p : ProcessorFigures) → KeepsWaits s (figures_with_processor s i p)
 of_processor s i p = record { since = λ id. refl; waited = λ id. refl; tasks = refl }
 
+-- to charge a task for a slice keeps waits, and so does a decision that is counted after a reading:
 kept-with_charged : (s : Figures) (o : Option Slice) → KeepsWaits s (with_charged s o)
 kept-with_charged s None = same s
 kept-with_charged s (Some x) = with_one s x.task _ refl refl
@@ -70,6 +72,7 @@ kept-ask processor now d s =
     (both s r _ (of_processor s processor _) (kept-with_charged r (slice_at processor (processor_in_figures s processor) now)))
     (of_processor (figures_read processor now s) processor _)
 
+-- a task that leaves its processor keeps waits, also after a reading:
 kept-left_from : (id : ℕ) (s : Figures) (place : Option ℕ) → KeepsWaits s (left_from id s place)
 kept-left_from id s None = same s
 kept-left_from id s (Some processor) = both s _ _ (of_processor s processor _) (with_one _ id _ refl refl)
@@ -116,6 +119,7 @@ since-comes id processor at s j inside =
     let q = figures_with_processor l processor (processor_joined (processor_in_figures l processor) (task_in_figures l id).weight) in
     set-at (λ t. t.since) q id j _ (eqb id j) (omega (arith, k.tasks)) (eqb_tells id j) ∙ ap (λ n. cond (eqb id j) at n) (k.since j)
 
+-- to come to a processor adds nothing to how long a task has waited
 waited-comes : (id processor at : ℕ) (s : Figures) (j : ℕ) → (task_in_figures (comes id processor at s) j).waited ≡ (task_in_figures s j).waited
 waited-comes id processor at s j =
     let l = figures_left id s in
@@ -152,6 +156,7 @@ abbrev pub if_preempted : Left → Bool → Bool
 if_preempted Preempted b = b
 if_preempted Blocked b = false
 
+-- after a stop the task that ran waits from then on, if it was preempted
 since-stopped : (left : Left) (at : ℕ) (running : Option Start) (s : Figures) (j : ℕ)
     → j < length s.tasks
     → (task_in_figures (stopped left at running s) j).since
@@ -161,6 +166,7 @@ since-stopped Blocked at None s j inside = refl
 since-stopped Blocked at (Some old) s j inside = refl
 since-stopped Preempted at (Some old) s j inside = set-at (λ t. t.since) s old.task j _ (eqb old.task j) inside (eqb_tells old.task j)
 
+-- a stop adds nothing to how long tasks have waited, and leaves as many tasks as before:
 waited-stopped : (left : Left) (at : ℕ) (running : Option Start) (s : Figures) (j : ℕ)
     → (task_in_figures (stopped left at running s) j).waited ≡ (task_in_figures s j).waited
 waited-stopped left at None s j = refl
@@ -172,6 +178,7 @@ tasks-stopped left at None s = refl
 tasks-stopped Blocked at (Some old) s = refl
 tasks-stopped Preempted at (Some old) s = length-set s.tasks old.task _
 
+-- the start of a task leaves since when each waits:
 since-with_latency : (t : TaskFigures) (o : Option ℕ) → (with_latency t o).since ≡ t.since
 since-with_latency t None = refl
 since-with_latency t (Some n) = refl
@@ -181,6 +188,7 @@ since-begun_if : (processor at : ℕ) (run : Option ℕ) (s : Figures) (j : ℕ)
 since-begun_if processor at None s j = refl
 since-begun_if processor at (Some id) s j = task_kept (λ (t : TaskFigures). t.since) s id j _ (since-with_latency (task_in_figures s id) _)
 
+-- the start of a task counts what it has waited
 waited-begun_if : (processor at : ℕ) (run : Option ℕ) (s : Figures) (j : ℕ)
     → j < length s.tasks → (task_in_figures s j).waited ≤ 18446744073709551615
     → (task_in_figures (begun_if processor at run s) j).waited
@@ -190,6 +198,7 @@ waited-begun_if processor at (Some id) s j inside h =
     set-at (λ t. t.waited) s id j _ (eqb id j) inside (eqb_tells id j)
     ∙ saturating_sum-at s id j (at - (task_in_figures s id).since) (eqb id j) (eqb_tells id j) h
 
+-- where there is said to be this number, it is this one
 is_this-shows : (j : ℕ) (o : Option ℕ) → is_this j o ≡ true → o ≡ Some j
 is_this-shows j None e = cc
 is_this-shows j (Some k) e =
@@ -202,6 +211,7 @@ gives_way-new j w run true true e f ne = absurd (ne (is_this-shows j w e ∙ sym
 gives_way-new j w run true false e f ne = refl
 gives_way-new j w run false c e f ne = refl
 
+-- a task that runs on does not give way, and none is preempted where none gives way:
 gives_way-same : (b : Bool) → (b && not b) ≡ false
 gives_way-same true = refl
 gives_way-same false = refl
@@ -210,6 +220,7 @@ none-preempted : (left : Left) → if_preempted left false ≡ false
 none-preempted Preempted = refl
 none-preempted Blocked = refl
 
+-- since when a task waits after a switch, by whether another runs
 since-switched_if : (b : Bool) (left : Left) (processor at : ℕ) (run : Option ℕ) (s : Figures) (j : ℕ)
     → is_run_by (processor_in_figures s processor).running run ≡ b → j < length s.tasks
     → (task_in_figures (cond b s (started processor at run (stopped left at (processor_in_figures s processor).running s))) j).since
@@ -235,6 +246,7 @@ since-switched : (left : Left) (processor at : ℕ) (run : Option ℕ) (s : Figu
 since-switched left processor at run s j inside =
     since-switched_if (is_run_by (processor_in_figures s processor).running run) left processor at run s j refl inside
 
+-- how long a task has waited after a switch, by whether another runs
 waited-switched_if : (b : Bool) (left : Left) (processor at : ℕ) (run : Option ℕ) (s : Figures) (j : ℕ)
     → j < length s.tasks → (task_in_figures s j).waited ≤ 18446744073709551615
     → let u = stopped left at (processor_in_figures s processor).running s in
@@ -256,6 +268,7 @@ waited-switched : (left : Left) (processor at : ℕ) (run : Option ℕ) (s : Fig
 waited-switched left processor at run s j inside h =
     waited-switched_if (is_run_by (processor_in_figures s processor).running run) left processor at run s j inside h
 
+-- what a start says of its task's wait, by whether another runs
 starts-waited_if : (b : Bool) (left : Left) (processor at : ℕ) (run : Option ℕ) (s : Figures) (st : Start)
     → let u = stopped left at (processor_in_figures s processor).running s in
     cond b None (starts_as processor at run u) ≡ Some st →
@@ -275,6 +288,7 @@ starts-waited : (left : Left) (processor at : ℕ) (run : Option ℕ) (s : Figur
 starts-waited left processor at run s st e =
     starts-waited_if (is_run_by (processor_in_figures s processor).running run) left processor at run s st e
 
+-- a pull says how long its task has waited
 pull-waited : (from processor at : ℕ) (task : Option ℕ) (s : Figures) (p : PulledTask)
     → moves_as from processor at task s ≡ Some p → p.waited ≡ p.at - (task_in_figures s p.task).since
 pull-waited from processor at None s p e = cc
@@ -299,10 +313,12 @@ pub record ReportsWaited (s s' : Figures) (j : ℕ) (seen : Option ℕ) (c : Cha
   pub since : (task_in_figures s' j).since ≡ unwrap_or seen (task_in_figures s j).since
   pub waited : (task_in_figures s j).waited ≤ 18446744073709551615 → (task_in_figures s' j).waited ≡ saturating_sum (task_in_figures s j).waited (reported_wait j c)
 
+-- a time that is set on a condition is the one that the condition shows, or the one before
 then-is : (b : Bool) (at since : ℕ) → cond b at since ≡ unwrap_or (then_if b at) since
 then-is true at since = refl
 then-is false at since = refl
 
+-- a placement, and a switch after steps that keep waits, tell the waits that they make:
 placed-reports : (processor now : ℕ) (d : Decision) (id to : ℕ) (s : Figures) (j : ℕ) (c : Change)
     → j < length s.tasks → c.pull ≡ None → c.start ≡ None
     → ReportsWaited s (placed processor now d id to s) j (then_if (eqb id j) (time_at processor now s)) c
@@ -342,6 +358,7 @@ switch-reports left processor at run s t j c inside k r p st =
           ∙ ap (λ o. saturating_sum (task_in_figures s j).waited (0 + wait_of_start j o)) st);
     }
 
+-- a task that comes to a processor, or is pulled, leaves as many tasks as before:
 tasks-comes : (id processor at : ℕ) (s : Figures) → length (comes id processor at s).tasks ≡ length s.tasks
 tasks-comes id processor at s = length-set (figures_left id s).tasks id _ ∙ (kept-leaves id s).tasks
 
@@ -349,15 +366,18 @@ tasks-taken : (processor at : ℕ) (task : Option ℕ) (s : Figures) → length 
 tasks-taken processor at None s = refl
 tasks-taken processor at (Some id) s = tasks-comes id processor at (waited_there id at s) ∙ length-set s.tasks id _
 
+-- a time that is set on one condition, and then on another, is set on either
 or-is : (b c : Bool) (at since : ℕ) → cond c at (cond b at since) ≡ cond (b || c) at since
 or-is true true at since = refl
 or-is true false at since = refl
 or-is false true at since = refl
 or-is false false at since = refl
 
+-- two counts that are added in turn, up to the greatest number, are their sum added at once
 saturating_sum-both : (n a b : ℕ) → saturating_sum (saturating_sum n a) b ≡ saturating_sum n (a + b)
 saturating_sum-both n a b = omega arith
 
+-- a pull tells the waits that it makes: of the task it takes, and of those that give way and begin
 pulled-reports : (processor from now : ℕ) (d : Decision) (task run : Option ℕ) (s : Figures) (j : ℕ) (c : Change)
     → j < length s.tasks → c.pull ≡ moves_as from processor (time_at processor now s) task (figures_asked processor d (figures_read processor now s))
     → c.start ≡ start_at Preempted processor (time_at processor now s) run
@@ -392,6 +412,7 @@ pulled-reports processor from now d task run s j c inside p st =
           ∙ ap (λ o. saturating_sum (task_in_figures s j).waited (wait_of_pull j (moves_as from processor at task a) + wait_of_start j o)) st);
     }
 
+-- where no pull and no start is told, what changes nothing leaves the waits, and so does what keeps them:
 nothing-reports : (s : Figures) (j : ℕ) (c : Change) → c.pull ≡ None → c.start ≡ None → ReportsWaited s s j None c
 nothing-reports s j c p st = record {
   since = refl;
@@ -406,6 +427,7 @@ admitted-reports s s' j c k p st =
     let n = nothing-reports s j c p st in
     record { since = k.since j; waited = λ h. k.waited j ∙ n.waited h }
 
+-- each event tells the waits that it makes, by cases:
 performed-reports : (s : Figures) (e : Event) (r : Reply) (j : ℕ)
     → j < length s.tasks
     → ReportsWaited s (performed s e r) j (wait_seen j s e (Ok r)) (report_of_answer s e r)
@@ -533,6 +555,7 @@ start-reported : (s : Figures) (e : Event) (a : Result Reply Refusal) (st : Star
 start-reported s e (Ok r) st h = start-reported_if (is_there s e) s e r st h
 start-reported s e (Err r) st h = cc
 
+-- so does a pull, by the figures before it, by cases:
 pull-performed : (s : Figures) (e : Event) (r : Reply) (p : PulledTask)
     → (report_of_answer s e r).pull ≡ Some p → p.waited ≡ p.at - (task_in_figures s p.task).since
 pull-performed s (EndWake processor now) (Placed task to by steps) p e = cc

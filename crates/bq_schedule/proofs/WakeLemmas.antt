@@ -36,6 +36,7 @@ pub record KeepsWakes (s s' : Figures) : Type 0 where
   pub at : (id : ℕ) → (task_in_figures s' id).woken ≡ (task_in_figures s id).woken
   pub tasks : length s'.tasks ≡ length s.tasks
 
+-- what changes nothing keeps wakes; so do two such steps, a task set with the same wake, and a processor that is set:
 same : (s : Figures) → KeepsWakes s s
 same s = record { at = λ id. refl; tasks = refl }
 
@@ -48,6 +49,7 @@ with_one s i t e = record { at = λ id. task_kept (λ (u : TaskFigures). u.woken
 of_processor : (s : Figures) (i : ℕ) (p : ProcessorFigures) → KeepsWakes s (figures_with_processor s i p)
 of_processor s i p = record { at = λ id. refl; tasks = refl }
 
+-- to charge a task for a slice keeps wakes, and so does a reading:
 kept-with_charged : (s : Figures) (o : Option Slice) → KeepsWakes s (with_charged s o)
 kept-with_charged s None = same s
 kept-with_charged s (Some x) = with_one s x.task _ refl
@@ -57,6 +59,7 @@ kept-read_at processor now s =
     both s (figures_with_processor s processor (processor_read processor (processor_in_figures s processor) now)) _
     (of_processor s processor _) (kept-with_charged _ (slice_at processor (processor_in_figures s processor) now))
 
+-- a task that leaves its processor keeps wakes:
 kept-left_from : (id : ℕ) (s : Figures) (place : Option ℕ) → KeepsWakes s (left_from id s place)
 kept-left_from id s None = same s
 kept-left_from id s (Some processor) = both s _ _ (of_processor s processor _) (with_one _ id _ refl)
@@ -64,6 +67,7 @@ kept-left_from id s (Some processor) = both s _ _ (of_processor s processor _) (
 kept-leaves : (id : ℕ) (s : Figures) → KeepsWakes s (figures_left id s)
 kept-leaves id s = kept-left_from id s (task_in_figures s id).place
 
+-- so does one that comes to a processor, is pulled, or ceases to run:
 kept-comes : (id processor now : ℕ) (s : Figures) → KeepsWakes s (comes id processor now s)
 kept-comes id processor now s =
     both s (figures_left id s) _ (kept-leaves id s)
@@ -89,19 +93,23 @@ set-one s i j t false inside (inl e) = absurd (cc)
 set-one s i j t true inside (inr e) = absurd (cc)
 set-one s i j t false inside (inr e) = ap (λ (u : TaskFigures). u.woken) (get_or-set_other s.tasks i j t unknown (λ h. e.1 (sym h)))
 
+-- a task that begins to run has no wake that awaits a run any more, and the others keep theirs
 woken-begun_if : (processor now : ℕ) (run : Option ℕ) (s : Figures) (j : ℕ)
     → j < length s.tasks
     → (task_in_figures (begun_if processor now run s) j).woken ≡ cond (is_this j run) None (task_in_figures s j).woken
 woken-begun_if processor now None s j inside = refl
 woken-begun_if processor now (Some id) s j inside = set-one s id j _ (eqb id j) inside (eqb_tells id j)
 
+-- a condition with one that holds is that condition
 begins_alone : (b : Bool) → (b && true) ≡ b
 begins_alone true = refl
 begins_alone false = refl
 
+-- numbers that are told to differ do
 differs : (a b : ℕ) → eqb a b ≡ false → a ≢ b
 differs a b e h = grind (arith, nat_tests)
 
+-- a task that runs now begins if another ran before, and does not if it ran itself:
 new_at : (j old id : ℕ) (b c : Bool) → ((b ≡ true) × (id ≡ j)) ⊎ ((b ≡ false) × (id ≢ j))
     → ((c ≡ true) × (old ≡ j)) ⊎ ((c ≡ false) × (old ≢ j)) → old ≢ id
     → (b && not c) ≡ b
@@ -140,6 +148,7 @@ begins-old j (Some start) None e = cc
 begins-old j (Some start) (Some id) e =
     old_at j start.task id (eqb id j) (eqb start.task j) (eqb_tells id j) (eqb_tells start.task j) (eqb-true start.task id e)
 
+-- a switch ends the wait of the wake whose task begins to run, and of no other, by whether another runs:
 woken-switched_if : (b : Bool) (left : Left) (processor now : ℕ) (run : Option ℕ) (s : Figures) (j : ℕ)
     → is_run_by (processor_in_figures s processor).running run ≡ b → j < length s.tasks
     → (task_in_figures (cond b s (started processor now run (stopped left now (processor_in_figures s processor).running s))) j).woken
@@ -172,6 +181,7 @@ begins_seen j s (Some x) = begins_as j (running_task (processor_in_figures s x.p
 abbrev pub AwaitsAfter : ℕ → Figures → Figures → Event → Result Reply Refusal → Type 0
 AwaitsAfter j s s' e a = (task_in_figures s' j).woken ≡ awaited_after (wake_seen j s e a) (begins_seen j s (sight_of e a)) (task_in_figures s j).woken
 
+-- after a placement the placed task has its new wake, and each other the wake it had:
 awaits-placed : (b : Bool) (at : ℕ) (before : Option ℕ) → cond b (Some at) before ≡ awaited_after (cond b (Some at) None) false before
 awaits-placed true at before = refl
 awaits-placed false at before = refl
@@ -200,6 +210,7 @@ switched-awaits left processor now run s t j inside k r =
     ∙ ap (λ o. cond (begins_as j (option_map (λ (x : Start). x.task) o) (Some run)) None (task_in_figures t j).woken) r
     ∙ ap (λ o. cond (begins_as j (running_task (processor_in_figures s processor)) (Some run)) None o) (k.at j)
 
+-- a decision that is counted after a reading keeps wakes
 kept-ask : (processor now : ℕ) (d : Decision) (s : Figures) → KeepsWakes s (figures_asked processor d (figures_read processor now s))
 kept-ask processor now d s =
     both s (figures_read processor now s) _ (kept-read_at processor now s) (of_processor (figures_read processor now s) processor _)
@@ -209,6 +220,7 @@ pub runs-ask : (processor now : ℕ) (d : Decision) (s : Figures) (j : ℕ)
     → (processor_in_figures (figures_asked processor d (figures_read processor now s)) j).running ≡ (processor_in_figures s j).running
 runs-ask processor now d s j = (running-asked processor d (figures_read processor now s)).at j ∙ (running-read_at processor now s).at j
 
+-- a decision ends the wait of the wake whose task begins to run, and of no other
 decided-awaits : (processor now : ℕ) (d : Decision) (run : Option ℕ) (s : Figures) (j : ℕ)
     → j < length s.tasks
     → (task_in_figures (figures_decided processor now d run s) j).woken
@@ -217,6 +229,7 @@ decided-awaits processor now d run s j inside =
     switched-awaits Preempted processor (time_at processor now s) run s _ j inside (kept-ask processor now d s)
     (runs-ask processor now d s processor)
 
+-- a task that leaves its processor after a reading keeps wakes
 kept-block : (processor now id : ℕ) (s : Figures) → KeepsWakes s (figures_left id (figures_read processor now s))
 kept-block processor now id s = both s (figures_read processor now s) _ (kept-read_at processor now s) (kept-leaves id (figures_read processor now s))
 
@@ -225,6 +238,7 @@ pub runs-block : (processor now id : ℕ) (s : Figures) (j : ℕ)
     → (processor_in_figures (figures_left id (figures_read processor now s)) j).running ≡ (processor_in_figures s j).running
 runs-block processor now id s j = (running-leaves id (figures_read processor now s)).at j ∙ (running-read_at processor now s).at j
 
+-- a block ends the wait of the wake whose task begins to run, and of no other
 blocked-awaits : (processor now id : ℕ) (run : Option ℕ) (s : Figures) (j : ℕ)
     → j < length s.tasks
     → (task_in_figures (blocked processor now id run s) j).woken
@@ -233,6 +247,7 @@ blocked-awaits processor now id run s j inside =
     switched-awaits Blocked processor (time_at processor now s) run s _ j inside (kept-block processor now id s)
     (runs-block processor now id s processor)
 
+-- to pull a task after a reading keeps wakes
 kept-pull : (processor now : ℕ) (d : Decision) (task : Option ℕ) (s : Figures)
     → KeepsWakes s (figures_taken processor (time_at processor now s) task (figures_asked processor d (figures_read processor now s)))
 kept-pull processor now d task s =
@@ -247,6 +262,7 @@ runs-pull processor now d task s j =
     (running-taken processor (time_at processor now s) task (figures_asked processor d (figures_read processor now s))).at j
     ∙ runs-ask processor now d s j
 
+-- a pull ends the wait of the wake whose task begins to run, and of no other
 pulled-awaits : (processor now : ℕ) (d : Decision) (task run : Option ℕ) (s : Figures) (j : ℕ)
     → j < length s.tasks
     → (task_in_figures (figures_pulled processor now d task run s) j).woken
@@ -255,6 +271,7 @@ pulled-awaits processor now d task run s j inside =
     switched-awaits Preempted processor (time_at processor now s) run s _ j inside (kept-pull processor now d task s)
     (runs-pull processor now d task s processor)
 
+-- the wakes after a reply are those that its event leaves, by cases:
 performed-awaits : (s : Figures) (e : Event) (r : Reply) (j : ℕ) → j < length s.tasks → AwaitsAfter j s (performed s e r) e (Ok r)
 performed-awaits s (Admit id nice mask slice) Admitted j inside = (with_one (figures_left id s) id _ refl).at j ∙ (kept-leaves id s).at j
 performed-awaits s (EndWake processor now) (Placed task to by steps) j inside =
@@ -290,6 +307,7 @@ awaits-after s e (Ok r) j inside h = awaits-if (is_there s e) s e r j refl insid
 awaits-after s (EndWake processor now) (Err r) j inside h = refl
 awaits-after s e (Err r) j inside h = refl
 
+-- the ends of wakes and the starts that figures show are those of the history:
 seen-wake : (count : ℕ) (past : History) (e : Event) (a : Result Reply Refusal) (j : ℕ)
     → IsOfProcessors count past → IsSightWithin count (sight_of e a)
     → wake_seen j (figures count past) e a ≡ wake_end j past e a
@@ -321,6 +339,7 @@ pub record Starts (s : Figures) (processor now : ℕ) (run : Option ℕ) (start 
   pub reading : start.at ≡ time_at processor now s
   pub late : start.latency ≡ option_map (λ (woken : ℕ). start.at - woken) (task_in_figures s start.task).woken
 
+-- a start that a switch tells is of a task that begins to run, with its latency since its wake, by cases:
 starts_by : (s u : Figures) (processor now : ℕ) (run : Option ℕ) (start : Start)
     → KeepsWakes s u → is_run_by (processor_in_figures s processor).running run ≡ false
     → starts_as processor (time_at processor now s) run u ≡ Some start
@@ -362,6 +381,7 @@ abbrev pub StartsAs : Figures → Option Sight → Start → Type 0
 StartsAs s None start = ⊥
 StartsAs s (Some x) start = (run : Option ℕ) × (x.run ≡ Some run) × Starts s x.processor x.now run start
 
+-- each start that is reported is one at the processor of the sight, by cases:
 starts-performed : (s : Figures) (e : Event) (r : Reply) (start : Start)
     → (report_of_answer s e r).start ≡ Some start → StartsAs s (sight e r) start
 starts-performed s (Drain processor now) (Drained count run by steps) start e =
@@ -409,6 +429,7 @@ clock-there : (processor : ℕ) (past : History) (x : Sight) → x.processor ≡
     → clock_after processor (clock processor past) (Some x) ≡ reading (clock processor past) x.now
 clock-there processor past x e = rw e (rw (eq-eqb processor processor refl) refl)
 
+-- such a start is of a task that begins to run in the history, at that reading, with the time since its wake
 latency-shown : (count : ℕ) (past : History) (o : Option Sight) (start : Start)
     → IsOfProcessors count past → IsSightWithin count o → start.task < 1024 → StartsAs (figures count past) o start
     → (begins_run start.task past o ≡ true) × (start.at ≡ clock_after start.processor (clock start.processor past) o)

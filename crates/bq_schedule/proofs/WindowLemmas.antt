@@ -31,15 +31,18 @@ Filled p = IsFilled p.first p.last p.busy p.running
 abbrev pub HasBegun : Works → Type 0
 HasBegun w = (first : ℕ) × (w.first ≡ Some first) × (first + w.busy ≤ w.last)
 
+-- a processor for which that is true is filled
 begun : (p : ProcessorFigures) → HasBegun (works p) → Filled p
 begun p h = rw h.1 h.2
 
+-- a slice is no longer than its clock rises
 length-le-rise : (processor from to : ℕ) (running : Option Start) (b : Bool)
     → ltb from to ≡ b → from ≤ to → from + slice_length (slice_between processor from to running) ≤ to
 length-le-rise processor from to None b e h = omega arith
 length-le-rise processor from to (Some start) true e h = rw e (omega arith)
 length-le-rise processor from to (Some start) false e h = rw e (omega arith)
 
+-- after a reading whose slice is no longer than the clock rose, no more ran since the first reading than the clock rose
 begun-read_as : (p : ProcessorFigures) (to : ℕ) (s : Option Slice) (first : Option ℕ)
     → p.first ≡ first → p.last + slice_length s ≤ to → (p.running ≡ None → slice_length s ≡ 0)
     → IsFilled first p.last p.busy p.running
@@ -55,6 +58,7 @@ begun-read processor now p h =
     (λ none. ap (λ o. slice_length (slice_between processor p.last (reading p.last now) o)) none)
     h
 
+-- of two processors with the same works, that run the same, both are filled or neither
 same_works : (p q : ProcessorFigures) → works q ≡ works p → q.running ≡ p.running → Filled p → Filled q
 same_works p q w r h =
     let first : q.first ≡ p.first = ap (λ (x : Works). x.first) w in
@@ -68,6 +72,7 @@ runs_elsewhere : (o : Option (Option ℕ)) (s s' : Figures) (processor j : ℕ)
 runs_elsewhere None s s' processor j ne h = h.at j
 runs_elsewhere (Some run) s s' processor j ne h = h.1 j ne
 
+-- a moment leaves a processor filled, its own and each other:
 filled-there : (s s' : Figures) (x : Sight) (j : ℕ) (b : Bool)
     → eqb x.processor j ≡ b → j < length s.processors → Shows s s' (Some x) → Filled (processor_in_figures s j)
     → ((b ≡ true) × (x.processor ≡ j)) ⊎ ((b ≡ false) × (x.processor ≢ j))
@@ -110,6 +115,7 @@ figures_are_filled count (m ∷ past) processor h inside =
 abbrev pub Fills : ProcessorFigures → ℕ → ℕ → Type 0
 Fills p observed work = (work ≤ window_since p.first p.last) × (work + idle_in observed p ≡ observed)
 
+-- of a filled processor, busy time fits between its first and last reading, and with idle time it fills the observed time
 fills_if : (first : Option ℕ) (p : ProcessorFigures) (observed : ℕ) → p.first ≡ first → ((first : ℕ) → p.first ≡ Some first → p.last - first ≤ observed)
     → IsFilled first p.last p.busy p.running → Fills p observed p.busy
 fills_if None p observed e within h = (omega (arith, h.0), omega (arith, h.0))

@@ -61,9 +61,11 @@ like w u w' o e h = record {
   who = λ j inside. ap (λ l. id_of (get_or l j new_processor).running.current) (sym e) ∙ h.who j inside;
 }
 
+-- what changes nothing shows nothing
 same : (w : World) → Shown w w None
 same w = record { count = refl; last = λ j inside. refl; who = λ j inside. refl }
 
+-- where a processor is set, its clock is what is read, who runs is who is reported, and the others keep both:
 last_there : (w : World) (i j now : ℕ) (p : Processor) (b : Bool)
     → j < count_in w → p.running.last ≡ reading (last_at w i) now → ((b ≡ true) × (i ≡ j)) ⊎ ((b ≡ false) × (i ≢ j))
     → (get_or (slice_set w.processors i p) j new_processor).running.last ≡ cond b (reading (last_at w j) now) (last_at w j)
@@ -128,6 +130,7 @@ last-started_if_idle : (d : Discipline) (p : Running) (o : Option Task) → (sta
 last-started_if_idle d p None = last-run_id p (id_of (d.choice p.queue))
 last-started_if_idle d p (Some t) = refl
 
+-- to take a waiting task away leaves the clock, and who runs:
 last-without_task : (p : Running) (o : Option ℕ) → (without_task p o).last ≡ p.last
 last-without_task p None = refl
 last-without_task p (Some id) = refl
@@ -216,6 +219,7 @@ shown-performs s w (Pull processor from now) calls r w' h k =
     (ap (λ (q : Processor). id_of q.running.current) x.there ∙ ap id_of (current-without_task other.running task)
     ∙ ap (λ (v : Processor). id_of v.running.current) (sym there')))))
 
+-- the same of whether the processor shown is there
 within_as : (n : ℕ) (e : Event) (r x : Reply) → r ≡ x → IsSightWithin n (sight e x) → IsSightWithin n (sight e r)
 within_as n e r x h k = rw h k
 
@@ -258,6 +262,7 @@ pub record HasClocksOf (count : ℕ) (w : World) (past : History) : Type 0 where
   pub last : (j : ℕ) → j < count → last_at w j ≡ clock j past
   pub who : (j : ℕ) → j < count → who_at w j ≡ runner j past
 
+-- where a world's clocks and who runs are those of a history, they still are after a step, and after a run:
 reported-step : (count : ℕ) (s : PolicySemantics) (w : World) (past : History) (e : Event) (calls : List CounterCall)
     (a : Result Reply Refusal) (w' : World)
     → HasClocksOf count w past → WorldStep s w e calls a w'
@@ -281,6 +286,7 @@ reported-run count s w past (e ∷ es) (c ∷ calls) (a ∷ answers) w' t k =
     (reported-step count s w past e c a k.0 t k.1) k.2
 reported-run count s w past es calls answers w' t k = absurd k
 
+-- a world that opens has the clocks of the empty history
 opening-reported : (count : ℕ) → HasClocksOf count (opening_world count) []
 opening-reported count = record {
   many = length-replicate count new_processor;

@@ -1,4 +1,4 @@
--- What is said of a choice is so.
+-- What the form says of a choice is so: which task is eligible, that the lower id wins, and whether a pull takes a task.
 use Rattle.std.proofs.Common.{◌≡◌, ℕ, ◌+◌, ◌*◌, ◌/◌, ◌≤◌, ◌<◌, Bool, true, false, cond, List, [], ◌∷◌, length, filter, Some, None, refl, nat_le, arith}
 use Rattle.std.specs.Prelude.{Contains, IfSome, is_some, find, ◌==◌, if◌then◌else◌}
 use Rattle.std.proofs.lemmas.Bool.Decides.{nat_tests}
@@ -36,6 +36,7 @@ eligible_up_to_the_mean (x ∷ xs) t mean l e =
     let q = quotient_tests (total_weight (x ∷ xs)) t.v (weighted_sum (x ∷ xs)) l in
     cc
 
+-- what is found with one more task in front is that one, if it meets the test, or what is found of the others
 found_by_test : (b : Bool) (p : Task → Bool) (x : Task) (xs : List Task)
     → p x ≡ b → IfSome (find p xs) (λ u. Contains xs u × (p u ≡ true))
     → IfSome (cond b (Some x) (find p xs)) (λ u. Contains (x ∷ xs) u × (p u ≡ true))
@@ -49,12 +50,14 @@ find_found : (p : Task → Bool) (xs : List Task) → IfSome (find p xs) (λ u. 
 find_found p [] = tt
 find_found p (x ∷ xs) = found_by_test (p x) p x xs refl (find_found p xs)
 
+-- of two tasks that only the id tells apart, the one that does not go first has the greater id, under either discipline:
 lower_under_cfs : (w s : ℕ) (t u : Task) → is_tied Cfs w s t u ≡ true → runs_before u t ≡ false → t.id < u.id
 lower_under_cfs w s t u h k = grind (arith, nat_tests)
 
 lower_under_eevdf : (w s : ℕ) (t u : Task) → is_tied Eevdf w s t u ≡ true → due_before u t ≡ false → t.id < u.id
 lower_under_eevdf w s t u h k = grind (arith, nat_tests)
 
+-- under EEVDF a task that only the id tells apart from another is eligible
 tied_is_eligible : (w s : ℕ) (t u : Task) → is_tied Eevdf w s t u ≡ true → is_at_most_mean w s u ≡ true
 tied_is_eligible w s t u h = grind (arith, nat_tests)
 
