@@ -43,7 +43,7 @@ pub answer_is : (shapes : List MapShape) (m n k : ℕ) (r : Range) (alike : AreA
     → Describes shapes (record { kind = EntryOrNull m; offset = r }) (entry_address alike.shape n k)
 answer_is shapes m n k r alike lo = answer_at shapes m n k r _ alike lo (leb_tells (suc k) alike.shape.entries)
 
--- after a call each register is as known: register 0 as the answer, 1 to 5 not at all, the others as before, by cases
+-- after a call each register is as known: register 0 as the answer, 1 to 5 not at all, the others as before
 called_at : (shapes : List MapShape) (old cleared : List (Option AbstractValue)) (register : ℕ → Option ℕ) (answer : ℕ)
     (k : AbstractValue) (r : ℕ) (b c : Bool)
     → 0 < length cleared → Clears old cleared → RegisterIsAsKnown shapes (get_or old r None) (register r)

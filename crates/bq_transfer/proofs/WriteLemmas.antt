@@ -195,7 +195,7 @@ contains_classes f v t classes related copies contains = record {
   copies = copies;
 }
 
--- where a register can be stored, the instruction leads to the abstract state after it, with classes and relations that are right there
+-- where a register can be stored, the instruction leads to the abstract state after it, with right classes and relations
 pub carries_reg : (shapes : List MapShape) (context_length dst src : ℕ) (off : ℤ) (size : Size) (k : AbstractValue)
     (old new : AbstractState) (slot : Option ℕ) (classes : List ℕ) (related : List (Option Related))
     → ((f : Setting) (s : State) → Contains f old s → (v : ℕ) × (s.register src ≡ Some v) × Describes f.shapes k v)
