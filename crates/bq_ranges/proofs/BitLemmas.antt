@@ -14,7 +14,7 @@ use Rattle.bq_ranges.specs.Within.{Within}
 use Rattle.bq_ranges.specs.declared.range.Range.{Range}
 use Rattle.bq_ranges.proofs.OutcomeLemmas.{word_is_its_remainder, quotients_between}
 
--- a number that goes into n is no more than what goes into n below most
+-- a multiple of n that is at most a bound is at most the greatest multiple of n up to the bound
 multiple_below : (z most n : ℕ) → 0 < n → z % n ≡ 0 → z ≤ most → z ≤ most - most % n
 multiple_below z most n some whole below =
     let parts : z / n * n + z % n ≡ z = div-add-mod' z n in
@@ -23,27 +23,27 @@ multiple_below z most n some whole below =
     let more : z / n * n ≤ most / n * n = mul-le (z / n) n (most / n) n order (omega arith) in
     omega arith
 
--- what a word leaves of a mask goes as the low bits of the mask do
+-- the AND of a word and a mask whose k low bits are 0 is at most the greatest multiple of 2 ^ k up to a bound of it
 pub mask_left : (x y most k : ℕ) → y % 2 ^ k ≡ 0 → bit_and x y ≤ most → bit_and x y ≤ most - most % 2 ^ k
 mask_left x y most k low below =
     let last = and_le_r (x % 2 ^ k) (y % 2 ^ k) in
     let whole : bit_and x y % 2 ^ k ≡ 0 = omega (arith, and_mod x y k, last, low) in
     multiple_below (bit_and x y) most (2 ^ k) (pow_pos k) whole below
 
--- a signed shift of a word without the sign bit
+-- a signed shift to the right of a word without the sign bit divides it by a power of 2
 pub plain_shift : (w : Width) (half x y : ℕ) → 2 * half ≡ modulus w → x < half → operate w op.Arsh x y ≡ x / 2 ^ (y % bit_count w)
 unfolding operate
 plain_shift W32 half x y s p = let small : x < 2 ^ 31 = omega arith in grind (arith, ints)
 plain_shift W64 half x y s p = let small : x < 2 ^ 63 = omega arith in grind (arith, ints)
 
--- a signed shift of a word with the sign bit
+-- a signed shift to the right of a word with the sign bit divides its distance from the greatest word by a power of 2
 pub sign_shift : (w : Width) (half most x y : ℕ) → 2 * half ≡ modulus w → most + 1 ≡ modulus w → half ≤ x → x ≤ most
     → operate w op.Arsh x y ≡ most - (most - x) / 2 ^ (y % bit_count w)
 unfolding operate
 sign_shift W32 half most x y s t p q = let great : 2 ^ 31 ≤ x = omega arith in grind (arith, ints)
 sign_shift W64 half most x y s t p q = let great : 2 ^ 63 ≤ x = omega arith in grind (arith, ints)
 
--- words without a common bit make no more than a word
+-- the sum of two words without a common bit is a word of the width
 pub apart_below : (w : Width) (a b : ℕ) → a < modulus w → b < modulus w → compares w cond.AnyBit a b ≡ false → a + b < modulus w
 unfolding compares
 apart_below W32 a b p q h =
@@ -57,7 +57,7 @@ apart_below W64 a b p q h =
     let word = or_lt 64 a b p q in
     omega arith
 
--- the ends of a range of words with the sign bit, shifted, make no more than a word
+-- a signed shift to the right of a member of a range of words with the sign bit lies between the shifts of the ends
 pub sign_shifts : (w : Width) (half most : ℕ) (a : Range) (amount x y : ℕ)
     → 2 * half ≡ modulus w → most + 1 ≡ modulus w → half ≤ a.lo → a.hi ≤ most → y ≡ amount → Within a x
     → (most - (most - a.lo) / 2 ^ (amount % bit_count w) ≤ operate w op.Arsh x y % modulus w)

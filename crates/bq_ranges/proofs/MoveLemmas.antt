@@ -1,4 +1,4 @@
--- What sign extension and byte order give on words that fit.
+-- What sign extension gives on words that fit.
 use Rattle.std.proofs.Common.{◌≡◌, ℕ, ◌*◌, ◌%◌, ◌<◌, ◌≤◌, arith}
 use Rattle.std.proofs.lemmas.Int.{ints}
 use Rattle.std.specs.Int.{w64, cast_signed, cast_unsigned}

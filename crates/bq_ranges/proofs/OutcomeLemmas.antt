@@ -30,19 +30,19 @@ holds_low_word w r z fits h = rw (word_is_its_remainder w z (omega arith)) h
 pub held_bits : (w : Width) (r : Range) (z : ℕ) → z < modulus w → Within r z → Within r (z % modulus w)
 held_bits w r z fits h = rw (word_is_its_remainder w z fits) h
 
--- all words of the width hold every remainder
+-- the range of all words of the width holds every remainder
 pub held_by_all : (w : Width) (r : Range) (z : ℕ) → r.lo ≡ 0 → r.hi + 1 ≡ modulus w → Within r (z % modulus w)
 held_by_all w r z least most = let below = remainder_is_word w z in (omega arith, omega arith)
 
--- the case of a divisor that is not 0
+-- a choice by whether a divisor is 0 takes the second case if the divisor is not 0
 if_some : (k t e : ℕ) → (if suc k == 0 then t else e) ≡ e
 if_some k t e = grind (arith, nat_tests)
 
--- an equal word of the width is the remainder
+-- a word of the width that is equal to a number is also equal to its remainder
 pub as_word : (w : Width) (r z : ℕ) → r ≡ z → r < modulus w → r ≡ z % modulus w
 as_word w r z same fits = same ∙ sym (word_is_its_remainder w z (omega arith))
 
--- a quotient by zero is 0
+-- a range holds every quotient of members if it holds those by a divisor above 0, and 0 where the divisor may be 0
 pub quotient_held : (w : Width) (a b r : Range) → r.hi < modulus w → ((x : ℕ) → Within a x → Within b 0 → Within r 0)
     → ((x y : ℕ) → Within a x → Within b y → 0 < y → Within r (x / y)) → (x y : ℕ) → Within a x → Within b y
     → Within r (operate w op.Div x y % modulus w)
@@ -51,7 +51,7 @@ quotient_held w a b r fits none some x zero p q = holds_low_word w r 0 fits (non
 quotient_held w a b r fits none some x (suc k) p q =
     rw (if_some k 0 (x / suc k)) (holds_low_word w r (x / suc k) fits (some x (suc k) p q (omega arith)))
 
--- a remainder by zero is the dividend
+-- a range holds every remainder of members if it holds those by a divisor above 0, and the dividend where the divisor may be 0
 pub remainder_held : (w : Width) (a b r : Range) → r.hi < modulus w → ((x : ℕ) → Within a x → Within b 0 → Within r x)
     → ((x y : ℕ) → Within a x → Within b y → 0 < y → Within r (x % y)) → (x y : ℕ) → Within a x → Within b y
     → Within r (operate w op.Rem x y % modulus w)

@@ -1,4 +1,4 @@
--- What a signed comparison says of its two words.
+-- What a signed comparison says of its two words, by their sign bits and the order of the words.
 use Rattle.std.proofs.Common.{◌≡◌, ℕ, ◌*◌, ◌<◌, Bool, true, false, arith}
 use Rattle.std.proofs.lemmas.Int.{ints}
 use Rattle.std.specs.Prelude.{int_le, int_lt, Option, Some, None}
@@ -13,13 +13,14 @@ use Rattle.bq_ranges.specs.Within.{EndsAre, Within}
 use Rattle.bq_ranges.specs.Tight.{IsSigned}
 use Rattle.bq_ranges.specs.Signed.{EndsMeet, IsSignedAtMost, IsSignedBelow}
 
--- the signed order of two words, by a test that is true or false
+-- whether, as signed numbers of the width, the first word is at most the second; and whether it is below it:
 abbrev Le : Width → ℕ → ℕ → Bool
 Le w a b = int_le (cast_signed (integer_bytes w) a) (cast_signed (integer_bytes w) b)
 
 abbrev Lt : Width → ℕ → ℕ → Bool
 Lt w a b = int_lt (cast_signed (integer_bytes w) a) (cast_signed (integer_bytes w) b)
 
+-- the outcome of a test of the signed order says how the two words lie to each other, by sign bit and order, by cases:
 le_true : (w : Width) (half a b : ℕ) → 2 * half ≡ modulus w → a < modulus w → b < modulus w → Le w a b ≡ true → IsSignedAtMost half a b
 le_true W32 half a b s p q h = grind (arith, ints)
 le_true W64 half a b s p q h = grind (arith, ints)
@@ -36,6 +37,7 @@ lt_false : (w : Width) (half a b : ℕ) → 2 * half ≡ modulus w → a < modul
 lt_false W32 half a b s p q h = grind (arith, ints)
 lt_false W64 half a b s p q h = grind (arith, ints)
 
+-- words that lie so to each other make the test of their signed order come out so, by cases:
 true_le : (w : Width) (half a b : ℕ) → 2 * half ≡ modulus w → a < modulus w → b < modulus w → IsSignedAtMost half a b → Le w a b ≡ true
 true_le W32 half a b s p q h = grind (arith, ints)
 true_le W64 half a b s p q h = grind (arith, ints)
@@ -52,7 +54,7 @@ false_lt : (w : Width) (half a b : ℕ) → 2 * half ≡ modulus w → a < modul
 false_lt W32 half a b s p q h = grind (arith, ints)
 false_lt W64 half a b s p q h = grind (arith, ints)
 
--- what a signed test says when it goes that way
+-- what the outcome of a signed test says of its two words; of an unsigned test it says nothing
 abbrev pub SignedMeets : ℕ → Condition → Bool → ℕ → ℕ → Type 0
 SignedMeets half cond.SignedGreater true a b = IsSignedBelow half b a
 SignedMeets half cond.SignedGreater false a b = IsSignedAtMost half a b
@@ -64,7 +66,7 @@ SignedMeets half cond.SignedLessEqual true a b = IsSignedAtMost half a b
 SignedMeets half cond.SignedLessEqual false a b = IsSignedBelow half b a
 SignedMeets half _ goes a b = Unit {0}
 
--- a signed test that goes that way says so
+-- if a test comes out that way, its words lie to each other as a signed test with that outcome says
 pub signed_meets : (w : Width) (half : ℕ) (c : Condition) (goes : Bool) (a b : ℕ)
     → 2 * half ≡ modulus w → a < modulus w → b < modulus w → compares w c a b ≡ goes
     → SignedMeets half c goes a b
@@ -79,7 +81,7 @@ signed_meets w half cond.SignedLessEqual true a b s p q h = le_true w half a b s
 signed_meets w half cond.SignedLessEqual false a b s p q h = le_false w half a b s p q h
 signed_meets w half _ goes a b s p q h = tt
 
--- what a signed test says makes it go that way
+-- if two words lie to each other as the outcome of a signed test says, the test comes out that way
 pub goes_signed : (w : Width) (half : ℕ) (c : Condition) (goes : Bool) (a b : ℕ)
     → 2 * half ≡ modulus w → a < modulus w → b < modulus w → IsSigned c → SignedMeets half c goes a b
     → compares w c a b ≡ goes
@@ -94,7 +96,7 @@ goes_signed w half cond.SignedLessEqual true a b s p q u h = true_le w half a b 
 goes_signed w half cond.SignedLessEqual false a b s p q u h = false_le w half a b s p q h
 goes_signed w half _ goes a b s p q u h = absurd u
 
--- ends of which the test holds go that way
+-- if both ends of the range that is left lie to the bound as the outcome says, the test of both ends comes out that way
 pub ends_meet : (w : Width) (half : ℕ) (c : Condition) (goes : Bool) (a : Range) (b : ℕ) (P : ℕ → Type 0) (r : Option Range)
     → 2 * half ≡ modulus w → IsSigned c → a.hi < modulus w → b < modulus w
     → ((x : ℕ) → P x → Within a x × SignedMeets half c goes x b) → EndsAre P r

@@ -1,4 +1,4 @@
--- What a test says of its two words, and where low halves are tested as whole words.
+-- What a test by unsigned order or equality says of its two words, and where low halves are tested as whole words.
 use Rattle.std.proofs.Common.{◌≡◌, ◌≢◌, ℕ, ◌%◌, ◌^◌, ◌<◌, ◌≤◌, Bool, true, false, refl, arith}
 use Rattle.std.proofs.lemmas.Bool.Decides.{nat_tests}
 use Rattle.std.specs.Prelude.{Option, Some, None, not, bit_and, ◌==◌}
@@ -12,7 +12,7 @@ use Rattle.bq_ranges.specs.declared.range.Range.{Range}
 use Rattle.bq_ranges.specs.Within.{Within, EndsAre}
 use Rattle.bq_ranges.specs.Tight.{EndsTestAs, TestsAs, IsByOrder, IsSigned}
 
--- what a test by order says when it goes that way
+-- what the outcome of a test by order or equality says of its two words; of any other test it says nothing
 abbrev pub Meets : Condition → Bool → ℕ → ℕ → Type 0
 Meets cond.Equal true a b = a ≡ b
 Meets cond.Equal false a b = a ≢ b
@@ -28,7 +28,7 @@ Meets cond.LessEqual true a b = a ≤ b
 Meets cond.LessEqual false a b = b < a
 Meets _ goes a b = Unit {0}
 
--- a test that goes that way says so
+-- if a test comes out that way, its two words are in the order that the outcome says
 pub test_meets_side : (c : Condition) (goes : Bool) (a b : ℕ) → a < 2 ^ 64 → b < 2 ^ 64 → taken W64 c a b ≡ goes → Meets c goes a b
 unfolding compares
 test_meets_side cond.Equal true a b p q h = grind (arith, nat_tests)
@@ -45,7 +45,7 @@ test_meets_side cond.LessEqual true a b p q h = grind (arith, nat_tests)
 test_meets_side cond.LessEqual false a b p q h = grind (arith, nat_tests)
 test_meets_side _ goes a b p q h = tt
 
--- what a test says makes it go that way
+-- if two words are in the order that the outcome of a test says, the test comes out that way
 pub goes_where : (c : Condition) (goes : Bool) (a b : ℕ) → IsByOrder c → a < 2 ^ 64 → b < 2 ^ 64 → Meets c goes a b → taken W64 c a b ≡ goes
 unfolding compares
 goes_where cond.Equal true a b u p q h = grind (arith, nat_tests)
@@ -62,7 +62,7 @@ goes_where cond.LessEqual true a b u p q h = grind (arith, nat_tests)
 goes_where cond.LessEqual false a b u p q h = grind (arith, nat_tests)
 goes_where _ goes a b u p q h = absurd u
 
--- ends of which the test holds go that way
+-- if both ends of the range that is left are in that order to the bound, the test of both ends comes out that way
 pub ends_go : (c : Condition) (goes : Bool) (a : Range) (b : ℕ) (P : ℕ → Type 0) (r : Option Range)
     → IsByOrder c → b < 2 ^ 64 → ((x : ℕ) → P x → Within a x × Meets c goes x b) → EndsAre P r
     → EndsTestAs c a b goes r

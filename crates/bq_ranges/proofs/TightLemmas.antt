@@ -1,4 +1,4 @@
--- The least range on operands of the width is the least range on all words that have these low bits.
+-- When the ends of a result are outcomes: what holds of the low bits of the operands holds of all words that have these low bits.
 use Rattle.std.proofs.Common.{◌≡◌, ℕ, ◌+◌, ◌-◌, ◌%◌, ◌<◌, ◌≤◌, refl, sym, arith}
 use Rattle.std.specs.Prelude.{bit_and}
 use Rattle.std.proofs.lemmas.Nat.{and_le_l, and_le_r}
@@ -11,7 +11,7 @@ use Rattle.bq_ranges.specs.declared.range.Range.{Range}
 use Rattle.bq_ranges.specs.Within.{Within}
 use Rattle.bq_ranges.specs.Tight.{IsTightAt, IsTightWithin, IsReachable, greatest_by, least_by}
 
--- what is promised on all words is promised on their low bits
+-- if the least range is promised for two ranges of words, it is promised for the ranges of their low bits
 pub tight_within : (w : Width) (o : Operation) (a b low_a low_b : Range)
     → ((x : ℕ) × Within a x × (x % modulus w ≡ low_a.lo)) → ((x : ℕ) × Within a x × (x % modulus w ≡ low_a.hi))
     → ((y : ℕ) × Within b y × (y % modulus w ≡ low_b.lo)) → ((y : ℕ) × Within b y × (y % modulus w ≡ low_b.hi))
@@ -25,7 +25,7 @@ tight_within w op.Rsh a b low_a low_b least (x, p, e) (z, s, g) (y, q, f) promis
 tight_within w op.Mov a b low_a low_b least (x, p, e) (z, s, g) (y, q, f) promised = promised
 tight_within w _ a b low_a low_b least (x, p, e) (z, s, g) (y, q, f) promised = promised
 
--- an outcome of low bits is an outcome of the words that have them
+-- the result of the operation on low bits that two members have is reachable from the ranges of these members
 pub low_bits_reach : (w : Width) (o : Operation) (a b : Range) (low_x low_y z : ℕ)
     → ((x : ℕ) × Within a x × (x % modulus w ≡ low_x)) → ((y : ℕ) × Within b y × (y % modulus w ≡ low_y))
     → z ≡ operate w o low_x low_y % modulus w
@@ -51,11 +51,12 @@ pub as_difference : (w : Width) (r x y : ℕ) → r ≡ x - y → y ≤ x → x 
 as_difference W32 r x y is order fits = omega arith
 as_difference W64 r x y is order fits = omega arith
 
+-- the low bits of a word are at most the word
 remainder_below : (w : Width) (x : ℕ) → x % modulus w ≤ x
 remainder_below W32 x = omega arith
 remainder_below W64 x = omega arith
 
--- the bits in both words make no more than either
+-- the AND of two words is at most each of them
 pub common_below : (w : Width) (x y : ℕ) → (alu_result w op.And x y ≤ x) × (alu_result w op.And x y ≤ y)
 unfolding operate
 common_below w x y =

@@ -1,4 +1,4 @@
--- Accesses by pointers that are known.
+-- Accesses by pointers that are known: the bytes that they reach are there, and are set.
 use Rattle.std.proofs.Common.{◌≡◌, ℕ, zero, suc, ◌+◌, ◌*◌, ◌%◌, ◌^◌, ◌<◌, ◌≤◌, true, false, List, [], ◌∷◌, Option, Some, None, length, get_or, refl, arith, sym, ap, subst, ◌∙◌, ℤ, set, pos}
 use Rattle.std.specs.Prelude.{slice_get, slice_index, slice_index_or}
 use Rattle.std.proofs.lemmas.Option.{slice_get-get_or}
@@ -17,7 +17,7 @@ use Rattle.bq_states.specs.AbstractStates.{Contains, Suits, IsEntryBase, IsRegio
 use Rattle.bq_insn.proofs.OptionLemmas.{some_same}
 use Rattle.bq_states.proofs.LearnLemmas.{found_at}
 
--- bytes that are set make a list, and a number
+-- bytes that are set make a list of bytes, and a number that this many bytes can hold
 pub read_bytes : (at : ℕ → Option ℕ) (n : ℕ) → ((i : ℕ) → i < n → (b : ℕ) × (at i ≡ Some b) × (b < 256))
     → (bytes : List ℕ) × (length bytes ≡ n) × ((i : ℕ) → i < n → at i ≡ Some (slice_index bytes i))
     × (number_of bytes < 256 ^ n) × ((i : ℕ) → slice_index bytes i < 256)
@@ -45,7 +45,7 @@ read_bytes at (suc n) each =
     byte_in at b bs n p q zero h = p
     byte_in at b bs n p q (suc i) h = q i (omega arith)
 
--- an access inside the bound is good
+-- an access of a known offset and distance that stays inside the size of the region is good
 pub good_at : (f : Setting) (region : Region) (base size word offset count at : ℕ) (off : ℤ)
     → Spans f region base size → base < 2 ^ 63 → word ≡ (base + offset) % 2 ^ 64 → at ≡ (offset + word_of off) % 2 ^ 64
     → size ≤ 65536 → at + count ≤ size
@@ -53,7 +53,7 @@ pub good_at : (f : Setting) (region : Region) (base size word offset count at : 
 good_at f region base size word offset count at off spans low word_is at_is small inside =
     record { base = base; size = size; spans = spans; address_is = omega (arith, word_is, at_is); inside = inside }
 
--- the bytes of the context
+-- each byte inside the context is there, and is below 256
 pub context_byte : (shapes : List MapShape) (context_length : ℕ) (f : Setting) (s : State) (i : ℕ)
     → Suits shapes context_length f → i < length f.context
     → (b : ℕ) × (byte_at f s InContext i ≡ Some b) × (b < 256)
@@ -109,7 +109,7 @@ entry_bounds shapes context_length m size shape kind kind_is known size_is f bas
       omega (arith, entry.base_is, below, alike.low),
     )
 
--- the bytes that a pointer of the kind points to are set
+-- each byte of the region that a pointer of the kind points into is there, if on the stack it is known to be set
 pub region_byte : (shapes : List MapShape) (context_length : ℕ) (f : Setting) (v : AbstractState) (s : State)
     (kind : ValueKind) (region : Region) (base size i : ℕ)
     → Suits shapes context_length f → Contains f v s → IsRegionOfKind kind region → Spans f region base size → i < size
@@ -127,7 +127,7 @@ region_byte shapes context_length f v s (Entry m) region base size i suits conta
 region_byte shapes context_length f v s (EntryOrNull m) region base size i suits contains is spans lt set = absurd is
 region_byte shapes context_length f v s (Map m) region base size i suits contains is spans lt set = absurd is
 
--- a read by a pointer that stays inside its region
+-- a read by a known pointer that stays inside its region, and on the stack hits bytes that are set, finds bytes
 pub reads_gives : (shapes : List MapShape) (context_length : ℕ) (state : AbstractState) (count : ℕ) (src : ℕ) (off : ℤ)
     (base : AbstractValue) (bound : ℕ) (at : Range)
     → Some base ≡ slice_index_or state.registers src None → Bounds shapes context_length base.kind bound
@@ -159,12 +159,13 @@ reads_gives shapes context_length state count src off base bound at known bounds
       bytes.4,
     )
 
+-- a read at a word plus the distance 0 is a read at the word
 word_at : (f : Setting) (s : State) (word : ℕ) (bytes : List ℕ)
     → word < 2 ^ 64 → Reads f s (address_of word (pos 0)) bytes → Reads f s word bytes
 word_at f s word bytes small reads =
     let same : (word + word_of (pos 0)) % 2 ^ 64 ≡ word = omega arith in subst (λ (a : ℕ). Reads f s a bytes) same reads
 
--- a pointer that stays inside its region finds bytes
+-- a register with a known pointer that stays inside its region points to bytes that may be read
 pub finds_bytes : (shapes : List MapShape) (context_length : ℕ) (state : AbstractState) (count : ℕ)
     (src : ℕ) (base : AbstractValue) (bound : ℕ)
     → Some base ≡ slice_index_or state.registers src None

@@ -5,7 +5,7 @@ use Rattle.bq_states.specs.declared.abstract_state.ValueKind.{ValueKind}
 use Rattle.bq_states.specs.declared.abstract_state.ValueKind.TheVariants.{Entry, EntryOrNull}
 use Rattle.bq_states.specs.AbstractStates.{AreAlike, IsBase, IsEntryBase, IsReferenceBase}
 
--- a map of the shape of a map of that shape
+-- if a map is like a second one, and that one like a third, the first is like the third
 pub alike_both : (shapes : List MapShape) (m n k : ℕ) → AreAlike shapes m n → AreAlike shapes n k → AreAlike shapes m k
 alike_both shapes m n k p q = record { shape = p.shape; one = p.one; other = q.other ∙ sym q.one ∙ p.other; low = q.low }
 

@@ -34,10 +34,12 @@ pub copies_kept : (old new : List ℕ) (related : List (Option Related)) (s : St
     → KeepsClasses old new → AreCopies old related s → AreCopies new related s
 copies_kept old new related s keeps copies = copies_moved old new related s s (λ p some. (keeps p some, λ n h. h)) copies
 
+-- a place whose class was set to 0 has class 0, also past the end of the list
 zero_at : (xs : List ℕ) (d : ℕ) → (d < length xs) ⊎ (length xs ≤ d) → get_or (set xs d 0) d 0 ≡ 0
 zero_at xs d (inl lt) = get_or-set_same xs d 0 0 lt
 zero_at xs d (inr past) = get_or_past (set xs d 0) d 0 (rw length-set past)
 
+-- a place that has a class after place d lost its own is not d and keeps its class, by whether it is d
 parted_by : (xs : List ℕ) (d p : ℕ) (b : Bool) → ((b ≡ true) × (p ≡ d)) ⊎ ((b ≡ false) × (p ≢ d))
     → get_or (set xs d 0) p 0 ≢ 0
     → (p ≢ d) × (get_or (set xs d 0) p 0 ≡ get_or xs p 0)
@@ -45,7 +47,7 @@ parted_by xs d p b (inl (_, same)) some =
     absurd (some (subst (λ (k : ℕ). get_or (set xs d 0) k 0 ≡ 0) (sym same) (zero_at xs d (cases_lt d (length xs)))))
 parted_by xs d p b (inr (_, other)) some = (other, get_or-set_other xs d p 0 0 other)
 
--- a place that is written is of no class
+-- a place that has a class after place d lost its own is not d, and keeps its class
 pub written_has_no_class : (xs : List ℕ) (d p : ℕ) → slice_index (slice_set xs d 0) p ≢ 0
     → (p ≢ d) × (slice_index (slice_set xs d 0) p ≡ slice_index xs p)
 written_has_no_class xs d p some = parted_by xs d p _ (eqb_tells p d) some
@@ -76,6 +78,7 @@ pub copies_learnt : (classes : List ℕ) (related : List (Option Related)) (s : 
 copies_learnt classes related s d copies =
     copies_kept classes (slice_set classes d 0) related s (λ p some. (written_has_no_class classes d p some).1) copies
 
+-- a register from 6 on keeps its word in a call, by the tests for register 0 and for those below 6
 register_called : (register : ℕ → Option ℕ) (p answer : ℕ) (b c : Bool)
     → ((b ≡ true) × (p ≡ 0)) ⊎ ((b ≡ false) × (p ≢ 0)) → ((c ≡ true) × (suc p ≤ 6)) ⊎ ((c ≡ false) × (6 < suc p)) → 6 ≤ p
     → cond b (Some answer) (cond c None (register p)) ≡ register p
@@ -83,7 +86,7 @@ register_called register p answer b c (inl (_, same)) q above = absurd (omega ar
 register_called register p answer b c (inr (e, _)) (inl (_, low)) above = absurd (omega arith)
 register_called register p answer b c (inr (e, _)) (inr (e', _)) above = rw (e, e') refl
 
--- after a call
+-- after a call, places that kept their class are still copies, if places 0 to 5 lost theirs
 pub copies_called : (old parts : List ℕ) (related : List (Option Related)) (s : State) (answer : ℕ)
     → ForgetsFirstClasses old parts → AreCopies old related s
     → AreCopies (slice_set parts 0 0) related (called s answer)
@@ -96,7 +99,7 @@ copies_called old parts related s answer first copies =
       λ n h. (λ lt. register_called s.register p answer _ _ (eqb_tells p 0) (leb_tells (suc p) 6) before.0 ∙ h.0 lt, h.1),
     )) copies
 
--- after a write of bytes on the stack
+-- after a write of bytes on the stack, places are still copies, if the slots that were hit lost their class
 pub copies_written : (old new : List ℕ) (related : List (Option Related)) (s : State) (at : ℕ) (bytes : List ℕ)
     → ForgetsSlotClasses old new at (at + length bytes) → AreCopies old related s
     → AreCopies new related (next (written s InStack at bytes))
@@ -107,7 +110,7 @@ copies_written old new related s at bytes parts copies =
     (kept.0, λ n h. (h.0, λ j is. let word = h.1 j is in (word.0, λ i lt. apart_byte s.stack at bytes j i (kept.1 j is) lt ∙ word.1 i lt))))
     copies
 
--- slots apart from more bytes are apart from fewer
+-- if slots with a byte of a span of the stack lost their class, so did those with a byte of a smaller span
 pub parts_less : (old new : List ℕ) (from to o e : ℕ) → from ≤ o → e ≤ to → ForgetsSlotClasses old new from to
     → ForgetsSlotClasses old new o e
 parts_less old new from to o e low high parts p some = let kept = parts p some in (kept.0, λ j is. less j (kept.1 j is))
@@ -116,10 +119,11 @@ parts_less old new from to o e low high parts p some = let kept = parts p some i
     less j (inl below) = inl (omega arith)
     less j (inr above) = inr (omega arith)
 
--- the words of classes, with that one for a class
+-- the words of classes, with word n for class own
 abbrev with_word : (ℕ → ℕ) → ℕ → ℕ → ℕ → ℕ
 with_word word own n k = cond (eqb k own) n (word k)
 
+-- the word that is put in for a class is the word of this class, and other classes keep theirs, by cases:
 own_by : (word : ℕ → ℕ) (own n k : ℕ) (b : Bool) → ((b ≡ true) × (k ≡ own)) ⊎ ((b ≡ false) × (k ≢ own)) → k ≡ own → n ≡ cond b n (word k)
 own_by word own n k b (inl (e, _)) same = rw e refl
 own_by word own n k b (inr (_, other)) same = absurd (other same)
@@ -163,7 +167,7 @@ class_given old retired before related place own beside n s there keeps gone apa
         let before = copies.1 p (λ e. some (is ∙ kept ∙ e)) in
         subst (λ (k : ℕ). HasWord s p k) word (subst (λ (k : ℕ). HasWord s p (copies.0 k)) (sym (is ∙ kept)) before)
 
--- a place of the class of another, whose word it holds
+-- a place that holds each word of another place may be put into the class of that place
 pub copies_linked : (classes : List ℕ) (related : List (Option Related)) (to from class : ℕ) (s : State) (word : ℕ → ℕ)
     → to < length classes → HasWord s from (word class) → HaveWords classes s word → AreRelated word related
     → ((m : ℕ) → HasWord s from m → HasWord s to m)
@@ -179,12 +183,13 @@ copies_linked classes related to from class s word there has all so copy = (word
         let is : get_or (set classes to class) p 0 ≡ get_or classes p 0 = get_or-set_other classes to p class 0 other in
         subst (λ (k : ℕ). HasWord s p (word k)) (sym is) (all p (λ e. some (is ∙ e)))
 
+-- a register that is written has the written word, by the test of its number
 put_by : (register : ℕ → Option ℕ) (d v : ℕ) (b : Bool) → ((b ≡ true) × (d ≡ d)) ⊎ ((b ≡ false) × (d ≢ d))
     → cond b (Some v) (register d) ≡ Some v
 put_by register d v b (inl (e, _)) = rw e refl
 put_by register d v b (inr (_, other)) = absurd (other refl)
 
--- the register that is written
+-- a register that is written holds the written word
 pub put_here : (s : State) (slots d v : ℕ) → (put s slots d v).register d ≡ Some v
 put_here s slots d v = put_by s.register d v _ (eqb_tells d d)
 
@@ -192,24 +197,25 @@ put_here s slots d v = put_by s.register d v _ (eqb_tells d d)
 pub put_there : (s : State) (slots d v r n : ℕ) → r ≢ d → s.register r ≡ Some n → (put s slots d v).register r ≡ Some n
 put_there s slots d v r n other is = register_put s.register r d v _ (eqb_tells r d) other ∙ is
 
+-- a register stays as it is if register d is written with the word that d holds, by whether it is d
 same_by : (register : ℕ → Option ℕ) (p d n : ℕ) (b : Bool) → ((b ≡ true) × (p ≡ d)) ⊎ ((b ≡ false) × (p ≢ d))
     → register d ≡ Some n
     → cond b (Some n) (register p) ≡ register p
 same_by register p d n b (inl (e, same)) is = rw (e, same) (sym is)
 same_by register p d n b (inr (e, _)) is = rw e refl
 
--- a register that is written with what it holds
+-- if a register is written with the word that it holds, every register stays as it is
 pub put_same : (s : State) (slots d n : ℕ) → s.register d ≡ Some n → (p : ℕ) → (put s slots d n).register p ≡ s.register p
 put_same s slots d n is p = same_by s.register p d n _ (eqb_tells p d) is
 
--- its copies stay its copies
+-- if a register is written with the word that it holds, the places of each class are still copies
 pub copies_same : (classes : List ℕ) (related : List (Option Related)) (s : State) (slots d n : ℕ)
     → s.register d ≡ Some n → AreCopies classes related s → AreCopies classes related (put s slots d n)
 copies_same classes related s slots d n is copies =
     copies_moved classes classes related s (put s slots d n)
     (λ p some. (refl, λ m h. (λ lt. put_same s slots d n is p ∙ h.0 lt, h.1))) copies
 
--- registers with one word
+-- a register that is set to a word holds it as a place
 pub register_word : (s : State) (r n : ℕ) → r < 11 → s.register r ≡ Some n → HasWord s r n
 register_word s r n low is = (λ lt. is, λ j e. absurd (let no : ⊥ = omega (arith, e, low) in no))
 
@@ -221,6 +227,7 @@ register_copy s to from n m low low' is to_is has =
     let same : n ≡ m = same_Some n m (sym is ∙ has.0 low') in
     register_word s to m low (to_is ∙ ap (λ (k : ℕ). Some k) same)
 
+-- words with the same eight bytes have the same list of bytes
 same_bytes : (n m : ℕ) → ((i : ℕ) → i < 8 → byte_of i n ≡ byte_of i m) → bytes_low_first 0 8 n ≡ bytes_low_first 0 8 m
 same_bytes n m each =
     rw (
@@ -234,7 +241,7 @@ same_bytes n m each =
       each 7 (omega arith),
     ) refl
 
--- the number of its own eight bytes
+-- a 64-bit word is the number of its own eight bytes
 pub number_of_word : (n : ℕ) → n < 2 ^ 64 → number_of (bytes_low_first 0 8 n) ≡ n
 number_of_word n small = omega arith
 
@@ -247,7 +254,7 @@ one_word s slot n m first second =
     same_bytes n m (λ i lt. same_Some (byte_of i n) (byte_of i m) (sym (a.1 i lt) ∙ b.1 i lt)) in
     sym (number_of_word n a.0) ∙ ap number_of same ∙ number_of_word m b.0
 
--- a slot that holds the word of a register
+-- a slot that holds the word of a register holds each word that the register is known to have
 pub slot_copy : (s : State) (slot from n m : ℕ) → from < 11 → s.register from ≡ Some n
     → HasWord s (11 + slot) n → HasWord s from m
     → HasWord s (11 + slot) m
@@ -255,7 +262,7 @@ slot_copy s slot from n m low is there has =
     let same : n ≡ m = same_Some n m (sym is ∙ has.0 low) in
     subst (λ (k : ℕ). HasWord s (11 + slot) k) same there
 
--- a register that holds the word of a slot
+-- a register that holds the word of a slot holds each word that the slot is known to have
 pub loaded_copy : (s : State) (to slot n m : ℕ) → to < 11 → s.register to ≡ Some n → HasWord s (11 + slot) n
     → HasWord s (11 + slot) m
     → HasWord s to m

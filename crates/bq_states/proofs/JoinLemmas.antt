@@ -1,4 +1,4 @@
--- AbstractStates that allow more.
+-- Joins of abstract states: what allows more contains no less, and what is sure of both sides is sure of the join.
 use Rattle.std.proofs.Common.{◌≡◌, ◌≢◌, ℕ, ◌<◌, Bool, true, false, List, Option, Some, None, length, get_or, set, ◌+◌, ◌≤◌, sym, subst, arith, ◌∙◌, get_or-set_same, get_or-set_other, ◌⊎◌, inl, inr}
 use Rattle.std.specs.Prelude.{slice_index_or}
 use Rattle.std.proofs.lemmas.Bool.Decides.{eqb_tells}
@@ -51,6 +51,7 @@ Contains-more f s v w registers set kept parts classes related contains = record
   );
 }
 
+-- if a certainty that both sides have lasts at the places joined so far, it lasts with place i joined, by whether a place is i
 stands_by : (s : Certainty) (old now other : List (Option AbstractValue)) (i : ℕ) (x a b : Option AbstractValue)
     → i < length now → i < length other → a ≡ get_or now i a → b ≡ get_or other i b → get_or now i None ≡ get_or old i None
     → (CertaintyHolds s a → CertaintyHolds s b → CertaintyHolds s x)
@@ -69,7 +70,7 @@ stands_by s old now other i x a b lt lt' is_a is_b same both before k t le (inl 
     (both (subst (λ (v : Option AbstractValue). CertaintyHolds s v) read_a p)
     (subst (λ (v : Option AbstractValue). CertaintyHolds s v) read_b q))
 
--- one more place of a join
+-- if a certainty that both sides have lasts at the places before i, it lasts at those up to i when place i is joined
 pub stands_more : (s : Certainty) (old now other : List (Option AbstractValue)) (i : ℕ) (x a b : Option AbstractValue)
     → i < length now → i < length other → a ≡ get_or now i a → b ≡ get_or other i b → get_or now i None ≡ get_or old i None
     → (CertaintyHolds s a → CertaintyHolds s b → CertaintyHolds s x)
@@ -80,6 +81,7 @@ pub stands_more : (s : Certainty) (old now other : List (Option AbstractValue)) 
 stands_more s old now other i x a b lt lt' is_a is_b same both before k le p q =
     stands_by s old now other i x a b lt lt' is_a is_b same both before k _ le (eqb_tells k i) p q
 
+-- if a certainty that both sides have lasts at the places before i and the rest is unchanged, it lasts at any place
 stands_all_by : (s : Certainty) (old now other : List (Option AbstractValue)) (i : ℕ)
     → ((k : ℕ) → i ≤ k → get_or now k None ≡ get_or old k None)
     → ((k : ℕ) → k < i → CertaintyHolds s (get_or old k None) → CertaintyHolds s (get_or other k None) →
@@ -89,7 +91,7 @@ stands_all_by : (s : Certainty) (old now other : List (Option AbstractValue)) (i
 stands_all_by s old now other i rest before k (inl lt) p q = before k lt p q
 stands_all_by s old now other i rest before k (inr le) p q = subst (λ (v : Option AbstractValue). CertaintyHolds s v) (sym (rest k le)) p
 
--- all places of a join
+-- if a certainty that both sides have lasts at the places before i and the rest is unchanged, it lasts at all places
 pub stands_all : (s : Certainty) (old now other : List (Option AbstractValue)) (i : ℕ)
     → ((k : ℕ) → i ≤ k → get_or now k None ≡ get_or old k None)
     → ((k : ℕ) → k < i → CertaintyHolds s (get_or old k None) → CertaintyHolds s (get_or other k None) →

@@ -1,4 +1,4 @@
--- What a branch tells of one place is right of its copies.
+-- What a branch shows of one place is right of its copies, and what stays sure of an abstract state that learnt it.
 use Rattle.std.proofs.Common.{◌≡◌, ◌≢◌, ℕ, ◌+◌, ◌*◌, ◌^◌, ◌<◌, ◌≤◌, Bool, true, false, List, [], ◌∷◌, Option, Some, None, length, get_or, set, refl, sym, subst, ap, arith, ◌∙◌, get_or-set_same, get_or-set_other, ◌⊎◌, inl, inr}
 use Rattle.std.specs.Prelude.{slice_index, slice_index_or, slice_set}
 use Rattle.std.specs.Int.{byte_at as byte_of}
@@ -23,7 +23,7 @@ use Rattle.bq_states.proofs.LearnLemmas.{learn_at}
 use Rattle.bq_states.proofs.WordLemmas.{number_within, word_fits}
 use Rattle.bq_states.proofs.CopyLemmas.{number_of_word}
 
--- what is so of each word is so after one is written
+-- a relation of old and new abstract values at each place still holds after one place is set, if it holds there
 pub set_each : (R : ℕ → Option AbstractValue → Option AbstractValue → Type 0) (old now : List (Option AbstractValue)) (i : ℕ)
     (x a : Option AbstractValue)
     → i < length now → a ≡ get_or now i a → get_or now i None ≡ get_or old i None → R i a x
@@ -42,6 +42,7 @@ set_each R old now i x a lt is same here each k = at _ (eqb_tells k i)
     at b (inr (_, other)) =
         subst (λ (v : Option AbstractValue). R k (get_or old k None) v) (sym (get_or-set_other now i k x None other)) (each k)
 
+-- two functions that agree below 8 make the same list of eight numbers
 eight : (f g : ℕ → ℕ) → ((i : ℕ) → i < 8 → f i ≡ g i)
     → (f 0 ∷ f 1 ∷ f 2 ∷ f 3 ∷ f 4 ∷ f 5 ∷ f 6 ∷ f 7 ∷ []) ≡ (g 0 ∷ g 1 ∷ g 2 ∷ g 3 ∷ g 4 ∷ g 5 ∷ g 6 ∷ g 7 ∷ [])
 eight f g h =
@@ -56,10 +57,11 @@ eight f g h =
       h 7 (omega arith),
     ) refl
 
--- eight bytes are those of one word
+-- two 64-bit words with the same eight bytes are equal
 pub same_bytes : (m n : ℕ) → m < 2 ^ 64 → n < 2 ^ 64 → ((i : ℕ) → i < 8 → byte_of i m ≡ byte_of i n) → m ≡ n
 same_bytes m n p q h = sym (number_of_word m p) ∙ ap number_of (eight (λ i. byte_of i m) (λ i. byte_of i n) h) ∙ number_of_word n q
 
+-- a register that holds a word which the learnt value describes is as the sharper value says
 RegisterIsAsKnown-sharper : (shapes : List MapShape) (learnt : AbstractValue) (n : ℕ)
     (old new : Option AbstractValue) (v : Option ℕ)
     → IsSharper learnt old new → v ≡ Some n → Describes shapes learnt n → RegisterIsAsKnown shapes old v
@@ -70,6 +72,7 @@ RegisterIsAsKnown-sharper shapes learnt n (Some a) (Some b) v sharper is d h =
     let same : n ≡ h.0 = same_Some n h.0 (sym is ∙ h.1) in
     (h.0, h.1, sharper shapes h.0 (subst (λ (k : ℕ). Describes shapes learnt k) same d) h.2)
 
+-- a register of which nothing was known has nothing known of it by a sharper value
 RegisterIsAsKnown-none : (shapes : List MapShape) (learnt : AbstractValue) (old new : Option AbstractValue) (v : Option ℕ)
     → old ≡ None → IsSharper learnt old new → RegisterIsAsKnown shapes new v
 RegisterIsAsKnown-none shapes learnt old None v none sharper = tt
@@ -77,6 +80,7 @@ RegisterIsAsKnown-none shapes learnt old (Some b) v none sharper =
     absurd
     (let no : IsSharper learnt None (Some b) = subst (λ (k : Option AbstractValue). IsSharper learnt k (Some b)) none sharper in no)
 
+-- a slot that holds a word which the learnt value describes is as the sharper value says
 StackIsAsKnown-sharper : (shapes : List MapShape) (learnt : AbstractValue) (n : ℕ) (old new : Option AbstractValue)
     (stack : ℕ → Option ℕ) (j : ℕ)
     → IsSharper learnt old new → n < 2 ^ 64 → ((i : ℕ) → i < 8 → stack (8 * j + i) ≡ Some (byte_of i n))
@@ -170,7 +174,7 @@ module _ (f : Setting) (v : AbstractState) (s : State) (learnt : AbstractValue) 
       slot_at j b (inr (_, other)) =
           subst (λ (k : Option AbstractValue). StackIsAsKnown f.shapes k s.stack j) (sym (others' j other)) (contains.kept j)
 
--- what stays sure of an abstract state of which more is known
+-- a lasting fact stays true when registers and slots become better known, if their lasting certainties do
 pub has_sharper : (x : Fact) (v : AbstractState) (registers kept : List (Option AbstractValue))
     → ((s : Certainty) (k : ℕ) → IsLastingWord s → CertaintyHolds s (slice_index_or v.registers k None) →
     CertaintyHolds s (slice_index_or registers k None))
@@ -183,7 +187,7 @@ has_sharper (AtRegister s r) v registers kept stands stands' lasting has = stand
 has_sharper (IsSetAt i) v registers kept stands stands' lasting has = has
 has_sharper (IsPlainAt j) v registers kept stands stands' lasting has = stands' NoPointer j tt has
 
--- the word of the left operand, last
+-- an abstract state that learns of the left operand what describes its word still describes the state
 pub contains_left : (f : Setting) (v : AbstractState) (s : State) (dst n : ℕ) (left : AbstractValue)
     → dst < length v.registers → s.register dst ≡ Some n → Contains f v s → Describes f.shapes left n
     → Contains f (record v { registers = slice_set v.registers dst (Some left) }) s
@@ -196,6 +200,7 @@ contains_left f v s dst n left there is contains d = record {
   copies = contains.copies;
 }
 
+-- a certainty of a register lasts from the old registers to the new if register dst of both is set to the left operand
 learnt_at : (s : Certainty) (old new : List (Option AbstractValue)) (dst r : ℕ) (left : AbstractValue) (b : Bool)
     → dst < length old → dst < length new → ((b ≡ true) × (r ≡ dst)) ⊎ ((b ≡ false) × (r ≢ dst))
     → (CertaintyHolds s (get_or old r None) → CertaintyHolds s (get_or new r None))
@@ -210,7 +215,7 @@ learnt_at s old new dst r left b there there' (inr (_, other)) more has =
     subst (λ (v : Option AbstractValue). CertaintyHolds s v) (sym (get_or-set_other new dst r (Some left) None other))
     (more (subst (λ (v : Option AbstractValue). CertaintyHolds s v) (get_or-set_other old dst r (Some left) None other) has))
 
--- what is sure of the word of the left operand, last
+-- a lasting fact that holds once the left operand is learnt still holds once it is learnt in the later abstract state
 pub has_left_learnt : (x : Fact) (v w : AbstractState) (dst : ℕ) (left : AbstractValue)
     → dst < length v.registers → dst < length w.registers → ((y : Fact) → IsLasting y → Has y v → Has y w) → IsLasting x
     → HasLearnt x v dst left
@@ -221,7 +226,7 @@ has_left_learnt (AtRegister s r) v w dst left there there' more lasting has =
 has_left_learnt (IsSetAt i) v w dst left there there' more lasting has = more (IsSetAt i) tt has
 has_left_learnt (IsPlainAt j) v w dst left there there' more lasting has = more (IsPlainAt j) tt has
 
--- an abstract state with other classes and relations, which are right
+-- an abstract state with other classes and relations describes a state in which these are right
 pub contains_copies : (f : Setting) (v : AbstractState) (s : State) (classes : List ℕ) (related : List (Option Related))
     → AreCopies classes related s → Contains f v s
     → Contains f (record v { classes = classes; related = related }) s

@@ -1,4 +1,4 @@
--- Numbers in a few bytes of the stack.
+-- Numbers in a few bytes of the stack, and lists of parts that are related one by one.
 use Rattle.std.proofs.Common.{◌≡◌, ◌≢◌, ℕ, zero, suc, ◌+◌, ◌^◌, ◌<◌, ◌≤◌, Bool, true, false, List, [], ◌∷◌, Option, Some, None, length, get_or, set, refl, sym, ap, subst, arith, ◌∙◌, ◌⊎◌, inl, inr, get_or-set_same, get_or-set_other}
 use Rattle.std.specs.Prelude.{slice_index}
 use Rattle.std.proofs.lemmas.Bool.{cases_lt}
@@ -18,13 +18,13 @@ use Rattle.bq_states.specs.AbstractStates.{Contains, IsRegionOfKind}
 use Rattle.bq_states.proofs.StoreLemmas.{byte_inside_write, stack_cases}
 use Rattle.bq_insn.proofs.OptionLemmas.{some_same}
 
--- the bytes of a write are there
+-- after a write, the stack has the bytes that were written where they were written
 pub has_written : (stack : ℕ → Option ℕ) (at count : ℕ) (bytes : List ℕ)
     → length bytes ≡ count → HasBytes (stack_with stack at bytes) at count bytes
 has_written stack at count bytes long =
     (long, λ i lt. byte_inside_write stack at bytes i (omega (arith, long)) (stack_cases stack at bytes (at + i)))
 
--- a place has one list of this many bytes
+-- two lists of the same number of bytes that the stack has from one place on are equal
 pub same_bytes : (stack : ℕ → Option ℕ) (first count : ℕ) (a b : List ℕ)
     → HasBytes stack first count a → HasBytes stack first count b → a ≡ b
 same_bytes stack first count [] [] p q = refl
@@ -44,7 +44,7 @@ same_bytes stack first (suc count) (a ∷ as') (b ∷ bs) p q =
           (h.1 (suc i) (omega arith)),
     )
 
--- the number of the bytes of a part is in its range
+-- the number that the bytes of a known part spell is in the range of the part
 pub part_number : (stack : ℕ → Option ℕ) (p : StackPart) (o : ℕ) (size : Size) (bytes : List ℕ)
     → p.first ≡ o → p.size ≡ size → HasStackPart stack (Some p) → HasBytes stack o (byte_count size) bytes
     → Within p.range (number_of bytes)
@@ -54,6 +54,7 @@ part_number stack p o size bytes place same h has =
     (subst (λ (z : Size). HasBytes stack p.first (byte_count z) h.0) same h.1) in
     subst (λ (xs : List ℕ). Within p.range (number_of xs)) (same_bytes stack o (byte_count size) h.0 bytes own has) h.2
 
+-- if the elements before place i are related, they and the one written at i are, by whether a place is i
 related_at : {X : Type 0} (R : Option X → Option X → Type 0) (old now : List (Option X)) (i : ℕ) (x a : Option X)
     → i < length now → get_or old i None ≡ a → R a x → ((k : ℕ) → k < i → R (get_or old k None) (get_or now k None))
     → (k : ℕ) (b : Bool) → k < i + 1 → ((b ≡ true) × (k ≡ i)) ⊎ ((b ≡ false) × (k ≢ i))
@@ -65,13 +66,14 @@ related_at R old now i x a lt read r before k b le (inl (_, same)) =
     let was : get_or old k None ≡ a = rw same read in
     subst (λ v. R (get_or old k None) v) (sym there) (subst (λ v. R v x) (sym was) r)
 
--- one more of the parts that are related
+-- if the elements before place i are related, and the old one at i to the one written there, those up to i are
 pub related_more : {X : Type 0} (R : Option X → Option X → Type 0) (old now : List (Option X)) (i : ℕ) (x a : Option X)
     → i < length now → get_or old i None ≡ a → R a x → ((k : ℕ) → k < i → R (get_or old k None) (get_or now k None))
     → (k : ℕ) → k < i + 1
     → R (get_or old k None) (get_or (set now i x) k None)
 related_more R old now i x a lt read r before k le = related_at R old now i x a lt read r before k _ le (eqb_tells k i)
 
+-- if the elements before place i are related and both lists end by i, the elements at any place are, by its side of i
 related_by : {X : Type 0} (R : Option X → Option X → Type 0) (old now : List (Option X)) (i : ℕ)
     → R None None → length old ≤ i → length now ≤ i → ((k : ℕ) → k < i → R (get_or old k None) (get_or now k None))
     → (k : ℕ) → (k < i) ⊎ (i ≤ k)
@@ -81,13 +83,13 @@ related_by R old now i none long long' before k (inr le) =
     subst (λ v. R (get_or old k None) v) (sym (get_or_past now k None (omega arith)))
     (subst (λ v. R v None) (sym (get_or_past old k None (omega arith))) none)
 
--- all parts are related
+-- if the elements before place i are related and both lists end by i, the elements at every place are
 pub related_all : {X : Type 0} (R : Option X → Option X → Type 0) (old now : List (Option X)) (i : ℕ)
     → R None None → length old ≤ i → length now ≤ i → ((k : ℕ) → k < i → R (get_or old k None) (get_or now k None))
     → (k : ℕ) → R (get_or old k None) (get_or now k None)
 related_all R old now i none long long' before k = related_by R old now i none long long' before k (cases_lt k i)
 
--- an element that was read
+-- an element inside the list that was read with itself as default is read also with the default None
 pub part_read : {X : Type 0} (now : List (Option X)) (i : ℕ) (a : Option X) → i < length now → a ≡ get_or now i a → get_or now i None ≡ a
 part_read now i a lt is = sym (get_or_read now i a lt is None)
 
@@ -99,7 +101,7 @@ allows_none = record { has = λ stack h. h }
 pub outlives_none : (from to : ℕ) → Outlives from to None None
 outlives_none from to = record { has = λ stack at bytes low high h. h }
 
--- a number that is read is one of those
+-- a number that is read is in the range that has every number of the size, or, on the stack, those of the parts
 pub read_numbers : (kind : ValueKind) (at numbers : Range) (size : Size) (f : Setting) (s : State) (address : ℕ)
     (bytes : List ℕ) (parts : List (Option StackPart)) (r : Reads f s address bytes)
     → ((x : ℕ) → kind ≢ Stack → x < 256 ^ byte_count size → Within numbers x)
@@ -115,7 +117,7 @@ read_numbers Stack at numbers size f s address bytes parts r any on have long sm
 read_numbers kind at numbers size f s address bytes parts r any on have long small is within =
     any (number_of bytes) (λ e. let no : ⊥ = cc in no) small
 
--- an abstract state with other parts, which are right
+-- an abstract state with other parts describes a state if the stack has these parts
 pub contains_parts : (f : Setting) (v : AbstractState) (t : State) (parts : List (Option StackPart))
     → HaveParts t.stack parts → Contains f v t → Contains f (record v { parts = parts }) t
 contains_parts f v t parts have contains = record {

@@ -1,4 +1,4 @@
--- Relations of the words of classes.
+-- Relations of the words of classes: how they last, and that `==` of relations decides equality.
 use Rattle.std.proofs.Common.{◌≡◌, ◌≢◌, ℕ, ◌+◌, ◌-◌, ◌%◌, ◌^◌, ◌<◌, true, ◌&&◌, Option, Some, None, refl, ap, arith}
 use Rattle.std.specs.Prelude.{◌==◌}
 use Rattle.std.specs.Bool.{Decides, beq}
@@ -17,15 +17,15 @@ use Rattle.bq_states.specs.contracts.relations.RelationPartialEq.TheImpl as same
 use Rattle.bq_states.specs.contracts.relations.RelatedPartialEq.TheImpl as same_related
 use Rattle.bq_states.specs.Relations.{IsRelatedBy, Relates}
 
--- each relation of the one is right where the words of the other are so related
+-- if the old relation holds between the words of its classes, the new one holds between those of its own
 pub record AllowsRelation (old new : Option Related) : Type 0 where
   pub has : (word : ℕ → ℕ) → IsRelatedBy word old → IsRelatedBy word new
 
--- a relation stays right where only the word of that class is another one
+-- if the old relation holds, the new one holds even when the word of this class becomes another one
 pub record OutlivesClass (class : ℕ) (old new : Option Related) : Type 0 where
   pub has : (word other : ℕ → ℕ) → ((k : ℕ) → k ≢ class → other k ≡ word k) → IsRelatedBy word old → IsRelatedBy other new
 
--- where no relation is known, none need be known
+-- if no relation was known, none may be known
 pub allows_no_relation : AllowsRelation None None
 allows_no_relation = record { has = λ word h. h }
 
@@ -37,6 +37,7 @@ no_relation_outlives class = record { has = λ word other same h. h }
 pub sum_right : (a b n : ℕ) → n < 2 ^ 64 → Relates (Sum n) a b → b ≡ (a + (2 ^ 64 - n)) % 2 ^ 64
 sum_right a b n small so = omega (arith, so.left, so.right, so.is)
 
+-- the `==` of conditions, of widths and of relations decides whether the two are equal:
 condition_decides : (a b : Condition) → Decides (sameb condition.the_type a b) (a ≡ b)
 condition_decides a b = (same_true condition.the_type tt a b, true_same condition.the_type a b)
 
@@ -53,6 +54,7 @@ relation_decides (Compared w c g) (Compared v d h) =
     (Decides-and (sameb width.the_type w v) (sameb condition.the_type c d && beq g h) (width_decides w v)
     (Decides-and (sameb condition.the_type c d) (beq g h) (condition_decides c d) (booleans_Decides g h)))
 
+-- two relations of classes that `==` says are equal are equal
 related_same : (a b : Related) → same_related.eq-value.it a b ≡ true → a ≡ b
 related_same a b e =
     let all =
@@ -61,7 +63,7 @@ related_same a b e =
     (Decides-eqb a.right b.right) (relation_decides a.relation b.relation))).0 e in
     λ i. record { left = all.0 i; right = all.1.0 i; relation = all.1.1 i }
 
--- relations that `==` says are one are one
+-- two relations of classes, known or not, that `==` says are equal are equal
 pub option_same : (a b : Option Related) → option_eq same_related.eq-value.it a b ≡ true → a ≡ b
 option_same None None e = refl
 option_same None (Some b) e = absurd (cc)

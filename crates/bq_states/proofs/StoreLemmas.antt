@@ -1,4 +1,4 @@
--- Writes on the stack.
+-- Writes on the stack: the bytes inside and outside a write, and the abstract state after it.
 use Rattle.std.proofs.Common.{◌≡◌, ℕ, zero, suc, ◌+◌, ◌-◌, ◌*◌, ◌<◌, ◌≤◌, Bool, true, false, ◌&&◌, List, Option, Some, None, length, refl, arith, ap, cond, ◌∙◌, ◌⊎◌, inl, inr}
 use Rattle.std.specs.Prelude.{slice_index, slice_index_or}
 use Rattle.std.specs.Int.{byte_at as byte_of, bytes_low_first}
@@ -12,6 +12,7 @@ use Rattle.bq_states.specs.Copies.{AreCopies}
 use Rattle.bq_states.specs.Parts.{Outlives}
 use Rattle.bq_states.specs.AbstractStates.{Describes, StackIsAsKnown, Contains, Marks, Forgets}
 
+-- a byte of the stack after a write is a written one or the old one, by how two tests of its place come out
 stack_tests : (stack : ℕ → Option ℕ) (at : ℕ) (bytes : List ℕ) (i : ℕ) (b c : Bool)
     → ((b ≡ true) × (at ≤ i)) ⊎ ((b ≡ false) × (i < at))
     → ((c ≡ true) × (suc i ≤ at + length bytes)) ⊎ ((c ≡ false) × (at + length bytes < suc i))
@@ -28,6 +29,7 @@ pub stack_cases : (stack : ℕ → Option ℕ) (at : ℕ) (bytes : List ℕ) (i 
     ⊎ (((i < at) ⊎ (at + length bytes ≤ i)) × (stack_with stack at bytes i ≡ stack i))
 stack_cases stack at bytes i = stack_tests stack at bytes i _ _ (leb_tells at i) (leb_tells (suc i) (at + length bytes))
 
+-- a byte that is marked as set after a write is set, and below 256
 set_after : (v : AbstractState) (s : State) (at i : ℕ) (bytes : List ℕ) (stack : Option ℕ)
     → ((k : ℕ) → k < length bytes → slice_index bytes k < 256)
     → (slice_index_or v.set i false ≡ true → (b : ℕ) × (s.stack i ≡ Some b) × (b < 256))
@@ -40,7 +42,7 @@ set_after v s at i bytes stack small old (inl (le, lt)) (inr (inl below, e)) = a
 set_after v s at i bytes stack small old (inl (le, lt)) (inr (inr past, e)) = absurd (omega arith)
 set_after v s at i bytes stack small old (inr was) (inr (apart, e)) = let known = old was in (known.0, rw e known.1, known.2)
 
--- a byte that the write does not touch
+-- a byte that the write does not touch is as it was
 pub byte_outside_write : (stack : ℕ → Option ℕ) (at : ℕ) (bytes : List ℕ) (i : ℕ)
     → (i < at) ⊎ (at + length bytes ≤ i)
     → ((at ≤ i) × (i < at + length bytes) × (stack_with stack at bytes i ≡ Some (slice_index bytes (i - at))))
@@ -50,7 +52,7 @@ byte_outside_write stack at bytes i (inl below) (inl (le, lt, e)) = absurd (omeg
 byte_outside_write stack at bytes i (inr past) (inl (le, lt, e)) = absurd (omega arith)
 byte_outside_write stack at bytes i apart (inr (apart', e)) = e
 
--- a byte of a slot that the write does not touch
+-- a byte of a slot that the write does not touch is as it was
 pub apart_byte : (stack : ℕ → Option ℕ) (at : ℕ) (bytes : List ℕ) (j i : ℕ)
     → (8 * j + 8 ≤ at) ⊎ (at + length bytes ≤ 8 * j) → i < 8
     → stack_with stack at bytes (8 * j + i) ≡ stack (8 * j + i)
@@ -78,6 +80,7 @@ StackIsAsKnown-apart shapes (Some k) stack at bytes j (inr past) h = (
       byte_outside_write stack at bytes (8 * j + i) (inr (omega arith)) (stack_cases stack at bytes (8 * j + i)) ∙ h.2 i lt,
 )
 
+-- after a write, a slot that is forgotten, or kept and not touched by the write, is as known
 kept_after : (shapes : List MapShape) (old new : Option AbstractValue) (stack : ℕ → Option ℕ) (at : ℕ)
     (bytes : List ℕ) (j : ℕ)
     → StackIsAsKnown shapes old stack j → (new ≡ None) ⊎ ((new ≡ old) × ((8 * j + 8 ≤ at) ⊎ (at + length bytes ≤ 8 * j)))
@@ -85,7 +88,7 @@ kept_after : (shapes : List MapShape) (old new : Option AbstractValue) (stack : 
 kept_after shapes old new stack at bytes j h (inl e) = rw e tt
 kept_after shapes old new stack at bytes j h (inr (e, apart)) = rw e (StackIsAsKnown-apart shapes old stack at bytes j apart h)
 
--- the abstract state after a write of bytes on the stack
+-- an abstract state that marks and forgets the bytes of a write on the stack describes the state after it
 pub contains_written : (f : Setting) (v w : AbstractState) (s : State) (at : ℕ) (bytes : List ℕ)
     → ((k : ℕ) → k < length bytes → slice_index bytes k < 256) → w.registers ≡ v.registers
     → Marks v.set w.set at (at + length bytes) → Forgets v.kept w.kept at (at + length bytes)
@@ -107,7 +110,7 @@ low_first_byte a zero v i lt = absurd (omega arith)
 low_first_byte a (suc n) v zero lt = ap (λ (x : ℕ). byte_of x v) (omega arith)
 low_first_byte a (suc n) v (suc i) lt = low_first_byte (suc a) n v i (omega arith) ∙ ap (λ (x : ℕ). byte_of x v) (omega arith)
 
--- a byte that is written
+-- a byte inside a write is the written one
 pub byte_inside_write : (stack : ℕ → Option ℕ) (at : ℕ) (bytes : List ℕ) (i : ℕ)
     → i < length bytes
     → ((at ≤ at + i) × (at + i < at + length bytes) × (stack_with stack at bytes (at + i) ≡ Some (slice_index bytes (at + i - at))))
@@ -117,7 +120,7 @@ byte_inside_write stack at bytes i lt (inl (le, lt', e)) = e ∙ ap (λ (x : ℕ
 byte_inside_write stack at bytes i lt (inr (inl below, e)) = absurd (omega arith)
 byte_inside_write stack at bytes i lt (inr (inr past, e)) = absurd (omega arith)
 
--- the bytes of a word that is stored whole in a slot
+-- a slot in which a word was stored whole has the bytes of the word
 pub stored_bytes : (stack : ℕ → Option ℕ) (j v : ℕ) (bytes : List ℕ)
     → bytes ≡ bytes_low_first 0 8 v → length bytes ≡ 8 → (i : ℕ) → i < 8
     → stack_with stack (8 * j) bytes (8 * j + i) ≡ Some (byte_of i v)
@@ -125,7 +128,7 @@ stored_bytes stack j v bytes is long i lt =
     byte_inside_write stack (8 * j) bytes i (omega arith) (stack_cases stack (8 * j) bytes (8 * j + i))
     ∙ ap Some (ap (λ (x : List ℕ). slice_index x i) is ∙ (low_first_byte 0 8 v i lt ∙ ap (λ (x : ℕ). byte_of x v) (omega arith)))
 
--- such a word is kept there
+-- a slot in which a described word was stored whole is as known
 pub StackIsAsKnown-stored : (shapes : List MapShape) (k : AbstractValue) (stack : ℕ → Option ℕ) (j v : ℕ) (bytes : List ℕ)
     → bytes ≡ bytes_low_first 0 8 v → length bytes ≡ 8 → Describes shapes k v
     → StackIsAsKnown shapes (Some k) (stack_with stack (8 * j) bytes) j

@@ -1,4 +1,4 @@
--- Calls.
+-- Calls: the state after a call, look-ups of entries and updates of them.
 use Rattle.std.proofs.Common.{◌≡◌, ◌≢◌, ℕ, suc, ◌+◌, ◌-◌, ◌*◌, ◌^◌, ◌<◌, ◌≤◌, Bool, true, false, List, Option, Some, None, length, get_or, set, refl, sym, arith, ap, ◌∙◌, cond, ◌⊎◌, inl, inr, pos, zero-le, get_or-set_same, get_or-set_other}
 use Rattle.std.specs.Prelude.{slice_get, slice_set, slice_index}
 use Rattle.std.proofs.lemmas.Bool.Decides.{eqb_tells, leb_tells, nat_tests}
@@ -18,6 +18,7 @@ use Rattle.bq_transfer.specs.Transfers.{Transfers, IsBelow}
 use Rattle.bq_states.proofs.AccessLemmas.{entry_low}
 use Rattle.bq_transfer.proofs.WriteLemmas.{contains_entry}
 
+-- the answer of a look-up is described as an entry or 0, by whether the map has an entry of that number
 answer_at : (shapes : List MapShape) (m n k : ℕ) (r : Range) (b : Bool) (alike : AreAlike shapes m n)
     → r.lo ≡ 0 → ((b ≡ true) × (suc k ≤ alike.shape.entries)) ⊎ ((b ≡ false) × (alike.shape.entries < suc k))
     → Describes shapes (record { kind = EntryOrNull m; offset = r }) (cond b (values_base n + k * alike.shape.value_size) 0)
@@ -36,12 +37,13 @@ answer_at shapes m n k r b alike lo (inl (e, there)) =
 answer_at shapes m n k r b alike lo (inr (e, past)) =
     rw e (record { base = 0; offset = 0; is_base = inl refl; within = (omega arith, zero-le); word_is = refl })
 
--- the answer of a look-up
+-- the answer of a look-up in a map of the same shape is described as an entry of the map or 0
 pub answer_is : (shapes : List MapShape) (m n k : ℕ) (r : Range) (alike : AreAlike shapes m n)
     → r.lo ≡ 0
     → Describes shapes (record { kind = EntryOrNull m; offset = r }) (entry_address alike.shape n k)
 answer_is shapes m n k r alike lo = answer_at shapes m n k r _ alike lo (leb_tells (suc k) alike.shape.entries)
 
+-- after a call each register is as known: register 0 as the answer, 1 to 5 not at all, the others as before
 called_at : (shapes : List MapShape) (old cleared : List (Option AbstractValue)) (register : ℕ → Option ℕ) (answer : ℕ)
     (k : AbstractValue) (r : ℕ) (b c : Bool)
     → 0 < length cleared → Clears old cleared → RegisterIsAsKnown shapes (get_or old r None) (register r)
@@ -136,6 +138,7 @@ entry_written f v s m k shape value known there long small contains =
     entry_at : (shape : MapShape) (m k : ℕ) → k < shape.entries → entry_address shape m k ≡ values_base m + k * shape.value_size + 0
     entry_at shape m k there = grind (arith, nat_tests)
 
+-- an update does its step to a state of the new abstract state, by whether the map has an entry of that number
 update_by : (f : Setting) (s : State) (v new : AbstractState) (m k : ℕ) (shape : MapShape) (from : ℕ) (value : List ℕ)
     → NamesEntry f s m shape k → s.register 3 ≡ Some from → length value ≡ shape.value_size
     → Reads f s from value → s.register 4 ≡ Some 0 → ((i : ℕ) → slice_index value i < 256)

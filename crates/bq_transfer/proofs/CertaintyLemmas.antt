@@ -1,4 +1,4 @@
--- What is sure of an abstract state goes on.
+-- What is sure of an abstract state goes on: which facts are sure after an instruction of each kind.
 use Rattle.std.proofs.Common.{◌≡◌, ◌≢◌, ℕ, ◌+◌, ◌<◌, ◌≤◌, Bool, true, false, List, Option, Some, None, length, refl, sym, subst, ap, ◌⊎◌, inl, inr, ◌∙◌, ℤ, pos, arith, get_or-set_same, get_or-set_other}
 use Rattle.std.specs.Prelude.{slice_index_or, ◌+ℤ◌, IsOk, OnOk, Ok, Err}
 use Rattle.std.specs.declared.result.Result.{Result}
@@ -25,23 +25,24 @@ use Rattle.bq_transfer.specs.Ready.{IsAtMost, IsLeftReady}
 use Rattle.bq_transfer.specs.After.{GivesExact, GivesNumber, LeavesNumber, GivesPointer, LeavesPointer, Spares, StoresByte, After}
 use Rattle.bq_insn.proofs.OptionLemmas.{some_none}
 
--- no word is a number and a pointer
+-- no word is sure to be both a number and a pointer
 pub not_both : (k : Option AbstractValue) (kind : ValueKind) (o : ℕ) → CertaintyHolds Scalar k → CertaintyHolds (Pointer kind o) k → ⊥
 not_both None kind o p q = p
 not_both (Some k) kind o p q = q.1 (sym q.0 ∙ p)
 
--- a word is one pointer
+-- if a word is sure to be two pointers, their kinds and their offsets are equal
 pub pointer_is : (k : Option AbstractValue) (kind : ValueKind) (o : ℕ) (kind' : ValueKind) (o' : ℕ)
     → CertaintyHolds (Pointer kind o) k → CertaintyHolds (Pointer kind' o') k → (kind ≡ kind') × (o ≡ o')
 pointer_is None kind o kind' o' p q = absurd p
 pointer_is (Some k) kind o kind' o' p q = (sym p.0 ∙ q.0, sym p.2 ∙ q.2)
 
+-- if a word is sure to be two pointers, what is sure to be the one is sure to be the other
 same_pointer : (k : Option AbstractValue) (kind : ValueKind) (o : ℕ) (kind' : ValueKind) (o' : ℕ) (v : Option AbstractValue)
     → CertaintyHolds (Pointer kind o) k → CertaintyHolds (Pointer kind' o') k → CertaintyHolds (Pointer kind' o') v
     → CertaintyHolds (Pointer kind o) v
 same_pointer k kind o kind' o' v p q stands = let e = pointer_is k kind o kind' o' p q in rw (e.0, e.1) stands
 
--- what outlasts a number of a register that is a number is that it is one
+-- of a number in a register, a certainty that outlasts its replacement says only that it is a number or no pointer
 apart : (k : Option AbstractValue) (s : Certainty) (r : ℕ) → Outlasts (AtRegister s r) r → CertaintyHolds Scalar k
     → CertaintyHolds s k
     → (s ≡ Scalar) ⊎ (s ≡ NoPointer)
@@ -51,6 +52,7 @@ apart (Some k) (Exact n) r lasts p q = absurd (lasts refl)
 apart (Some k) (Pointer kind o) r lasts p q = absurd (q.1 (sym q.0 ∙ p))
 apart (Some k) NoPointer r lasts p q = inr refl
 
+-- a word that is a number has each certainty that says it is a number or no pointer
 scalar_is : (k : Option AbstractValue) (s : Certainty) → CertaintyHolds Scalar k → (s ≡ Scalar) ⊎ (s ≡ NoPointer) → CertaintyHolds s k
 scalar_is None s p either = absurd p
 scalar_is (Some k) Scalar p either = p
@@ -60,6 +62,7 @@ scalar_is (Some k) (Exact n) p (inr e) = absurd (let no : ⊥ = cc in no)
 scalar_is (Some k) (Pointer kind o) p (inl e) = absurd (let no : ⊥ = cc in no)
 scalar_is (Some k) (Pointer kind o) p (inr e) = absurd (let no : ⊥ = cc in no)
 
+-- a certainty of register r outlasts a number put in place of a number in register dst, by whether r is dst
 given_by : (s : Certainty) (old new : AbstractState) (dst r : ℕ) (t : Bool)
     → Outlasts (AtRegister s r) dst → CertaintyHoldsAt Scalar old dst → IsGiven old new dst → CertaintyHoldsAt s old r
     → ((t ≡ true) × (r ≡ dst)) ⊎ ((t ≡ false) × (r ≢ dst))
@@ -71,7 +74,7 @@ given_by s old new dst r t lasts scalar given stands (inl (_, same)) =
     let here : CertaintyHoldsAt s old dst = subst (λ (n : ℕ). CertaintyHoldsAt s old n) same stands in
     subst (λ (n : ℕ). CertaintyHoldsAt s new n) (sym same) (scalar_is _ s given.given (apart _ s dst here_lasts scalar here))
 
--- a number in place of a number
+-- a fact that outlasts the replacement of a number in a register is still true after it
 pub given_has : (x : Fact) (old new : AbstractState) (dst : ℕ)
     → Outlasts x dst → CertaintyHoldsAt Scalar old dst → IsGiven old new dst → Has x old → Has x new
 given_has Never old new dst lasts scalar given has = has
@@ -81,6 +84,7 @@ given_has (IsSetAt i) old new dst lasts scalar given has =
 given_has (IsPlainAt j) old new dst lasts scalar given has =
     subst (λ (l : List (Option AbstractValue)). CertaintyHolds NoPointer (slice_index_or l j None)) (sym given.kept_same) has
 
+-- an instruction with a destination makes only this register a number, leaves what it spares and stores no byte, by cases:
 writes_one : (insn : Insn) (dst r : ℕ) → destination_of insn ≡ Some dst → GivesNumber insn r → r ≡ dst
 writes_one (Call helper) dst r writes gives = absurd (some_none _ _ writes refl)
 writes_one (Alu w Mov d (Imm i)) dst r writes gives = let e : Some r ≡ Some dst = ap (λ (n : ℕ). Some n) (sym gives) ∙ writes in cc
@@ -103,7 +107,7 @@ stores_none (StoreImm size d off imm) dst i writes stores = absurd (some_none _ 
 stores_none (StoreReg size d off src) dst i writes stores = absurd (some_none _ _ writes refl)
 stores_none _ dst i writes stores = stores
 
--- what is not of registers goes on, where the stack does not change
+-- a fact sure after an instruction holds, if the stack does not change and the facts of registers hold
 stack_same : (x : Fact) (slot k : ℕ) (insn : Insn) (old new : AbstractState)
     → ((i : ℕ) → StoresByte insn i → ⊥) → new.set ≡ old.set → new.kept ≡ old.kept
     → ((r : ℕ) → After (AtRegister Scalar r) slot k insn old → CertaintyHoldsAt Scalar new r)
@@ -122,6 +126,7 @@ stack_same (IsSetAt i) slot k insn old new none set kept scalars exacts pointers
 stack_same (IsPlainAt j) slot k insn old new none set kept scalars exacts pointers after =
     subst (λ (l : List (Option AbstractValue)). CertaintyHolds NoPointer (slice_index_or l j None)) (sym kept) after
 
+-- after register dst got a certainty, another register keeps its own, and dst has the new one:
 kept_at : (s t : Certainty) (old new : AbstractState) (dst r : ℕ)
     → IsMade t old new dst → r ≢ dst → CertaintyHoldsAt s old r → CertaintyHoldsAt s new r
 kept_at s t old new dst r made other stands = subst (λ (v : Option AbstractValue). CertaintyHolds s v) (sym (made.kept r other)) stands
@@ -129,7 +134,7 @@ kept_at s t old new dst r made other stands = subst (λ (v : Option AbstractValu
 here_at : (s : Certainty) (new : AbstractState) (dst r : ℕ) → r ≡ dst → CertaintyHoldsAt s new dst → CertaintyHoldsAt s new r
 here_at s new dst r same stands = subst (λ (n : ℕ). CertaintyHoldsAt s new n) (sym same) stands
 
--- after an instruction that gives a register a number
+-- each fact that is sure after an instruction that gives a register a number holds for the new abstract state
 pub has_given : (x : Fact) (slot k : ℕ) (insn : Insn) (old new : AbstractState) (dst : ℕ)
     → destination_of insn ≡ Some dst → ((kind : ValueKind) (o r : ℕ) → GivesPointer kind o slot k insn r old → ⊥)
     → ((n r : ℕ) → GivesExact n insn r → CertaintyHoldsAt (Exact n) new r) → IsGiven old new dst → After x slot k insn old
@@ -159,7 +164,7 @@ has_given x slot k insn old new dst writes none number given after =
     pointers kind o r (inr (spares, _, stands)) =
         kept_at (Pointer kind o) Scalar old new dst r given (spares_other insn dst r writes spares) stands
 
--- numbers are no pointers
+-- arithmetic on numbers gives no pointer
 pub no_pointer : (kind : ValueKind) (o slot k : ℕ) (w : Width) (op : Operation) (dst : ℕ) (src : Source) (r : ℕ)
     (state : AbstractState)
     → IsLeftReady op state dst → IsScalarOperand state src → GivesPointer kind o slot k (Alu w op dst src) r state
@@ -169,7 +174,7 @@ no_pointer kind o slot k w Mov dst (Reg src) r state left right (same, ten, stan
 no_pointer kind o slot k w Add dst (Imm i) r state left right (same, base, stands, at) = not_both _ kind base left stands
 no_pointer kind o slot k w op dst src r state left right gives = gives
 
--- after a copy of register 10
+-- each fact that is sure after a copy of register 10 holds for the new abstract state
 pub has_copied : (x : Fact) (slot k : ℕ) (w : Width) (dst base : ℕ) (old new : AbstractState)
     → CertaintyHoldsAt (Pointer Stack base) old 10 → IsMade (Pointer Stack base) old new dst
     → After x slot k (Alu w Mov dst (Reg 10)) old
@@ -190,7 +195,7 @@ has_copied x slot k w dst base old new frame made after =
     ])
     after
 
--- after a sum of a pointer and a number
+-- each fact that is sure after a number is added to a pointer into the stack holds for the new abstract state
 pub has_moved : (x : Fact) (slot k : ℕ) (w : Width) (dst base at : ℕ) (i : ℤ) (old new : AbstractState)
     → CertaintyHoldsAt (Pointer Stack base) old dst → pos at ≡ (pos base +ℤ i) → IsMade (Pointer Stack at) old new dst
     → After x slot k (Alu w Add dst (Imm i)) old
@@ -226,7 +231,7 @@ has_moved x slot k w dst base at i old new stands at_is made after =
     pointers kind o r (inr (spares, _, before)) =
         kept_at (Pointer kind o) (Pointer Stack at) old new dst r made (λ e. spares (ap (λ (n : ℕ). Some n) (sym e))) before
 
--- after a map reference
+-- each fact that is sure after a map reference holds for the new abstract state
 pub has_named : (x : Fact) (slot k dst : ℕ) (index : ℤ) (m : ℕ) (old new : AbstractState)
     → index ≡ pos m → IsMade (Pointer (Map m) 0) old new dst → After x slot k (MapRef dst index) old
     → Has x new
@@ -249,11 +254,12 @@ has_named x slot k dst index m old new is made after =
     ])
     after
 
+-- a register from 6 on keeps its certainty in a call
 called_at : (s t : Certainty) (old new : AbstractState) (r : ℕ)
     → IsCalled t old new → 6 ≤ r → CertaintyHoldsAt s old r → CertaintyHoldsAt s new r
 called_at s t old new r called above stands = subst (λ (v : Option AbstractValue). CertaintyHolds s v) (sym (called.kept r above)) stands
 
--- after a call that answers a number
+-- each fact that is sure after a call that answers a number holds for the new abstract state
 pub has_answered : (x : Fact) (slot k : ℕ) (helper : ℤ) (old new : AbstractState)
     → helper ≢ pos 1 → IsAnswered old new → After x slot k (Call helper) old → Has x new
 has_answered x slot k helper old new other answered after =
@@ -272,7 +278,7 @@ has_answered x slot k helper old new other answered after =
     ])
     after
 
--- after a look-up
+-- each fact that is sure after a look-up holds for the new abstract state
 pub has_looked_up : (x : Fact) (slot k m : ℕ) (old new : AbstractState)
     → CertaintyHoldsAt (Pointer (Map m) 0) old 1 → IsCalled (Pointer (EntryOrNull m) 0) old new
     → After x slot k (Call (pos 1)) old
@@ -296,7 +302,7 @@ has_looked_up x slot k m old new names called after =
     ])
     after
 
--- after a store on the stack
+-- each fact that is sure after a store on the stack holds for the new abstract state
 pub has_stored : (x : Fact) (slot k : ℕ) (insn : Insn) (old new : AbstractState) (from to : ℕ)
     → ((r : ℕ) → GivesNumber insn r → ⊥) → ((n r : ℕ) → GivesExact n insn r → ⊥)
     → ((kind : ValueKind) (o r : ℕ) → GivesPointer kind o slot k insn r old → ⊥)
@@ -322,7 +328,7 @@ has_stored (IsSetAt i) slot k insn old new from to none inexact nowhere bytes st
 has_stored (IsSetAt i) slot k insn old new from to none inexact nowhere bytes stored (inr has) = stored.set i has
 has_stored (IsPlainAt j) slot k insn old new from to none inexact nowhere bytes stored after = stored.plain j after
 
--- after an instruction that writes nothing that is known
+-- each fact that is sure after an instruction that gives no register anything and stores no byte holds as before it
 pub has_left : (x : Fact) (slot k : ℕ) (insn : Insn) (state : AbstractState)
     → ((r : ℕ) → GivesNumber insn r → ⊥) → ((n r : ℕ) → GivesExact n insn r → ⊥)
     → ((kind : ValueKind) (o r : ℕ) → GivesPointer kind o slot k insn r state → ⊥) → ((i : ℕ) → StoresByte insn i → ⊥)
@@ -345,7 +351,7 @@ pub bytes_at : (a b count i : ℕ) (off : ℤ) → pos a ≡ (pos 512 +ℤ off) 
     → (b ≤ i) × (i < b + count)
 bytes_at a b count i off p q le lt = let same : pos a ≡ pos b = p ∙ sym q in let e : a ≡ b = cc in (omega arith, omega arith)
 
--- one register is learnt again
+-- an abstract state that learns a word in one register is sure of it there, and all else is as before
 pub knowing_made : (s : Certainty) (state : AbstractState) (dst : ℕ) (k : AbstractValue)
     → dst < length state.registers → CertaintyHolds s (Some k) → IsMade s state (knowing state dst k) dst
 knowing_made s state dst k there stands = record {
@@ -355,7 +361,7 @@ knowing_made s state dst k there stands = record {
   kept_same = refl;
 }
 
--- classes and relations say nothing of that
+-- other classes and relations of an abstract state do not change what was made sure of a register
 pub made_classes : (s : Certainty) (old new : AbstractState) (dst : ℕ) (classes : List ℕ) (related : List (Option Related))
     → IsMade s old new dst → IsMade s old (record new { classes = classes; related = related }) dst
 made_classes s old new dst classes related made =
@@ -400,13 +406,13 @@ pub exact_of : (n : ℕ) (w : Width) (dst : ℕ) (src : Source) (r : ℕ)
 exact_of n w dst (Imm i) r gives = (i, refl, gives.0, gives.1, gives.2)
 exact_of n w dst (Reg src) r gives = absurd gives
 
--- only a MOV gives one
+-- an operation other than MOV gives no exact number
 pub exact_moves : (n : ℕ) (w : Width) (op : Operation) (dst : ℕ) (src : Source) (r : ℕ)
     → (op ≡ Mov → ⊥) → GivesExact n (Alu w op dst src) r → ⊥
 exact_moves n w Mov dst src r other gives = other refl
 exact_moves n w _ dst src r other gives = gives
 
--- after a MOV of a number
+-- a register that a MOV of an immediate makes an exact number is sure to be that number
 pub has_exact : (n : ℕ) (w : Width) (dst : ℕ) (src : Source) (r : ℕ) (old new : AbstractState)
     → ((i : ℤ) → src ≡ Imm i → w ≡ W64 → IsMade (Exact (word_of i)) old new dst) → GivesExact n (Alu w Mov dst src) r
     → CertaintyHoldsAt (Exact n) new r
@@ -415,7 +421,7 @@ has_exact n w dst src r old new made gives =
     let at : CertaintyHoldsAt (Exact (word_of e.0)) new r = here_at (Exact (word_of e.0)) new dst r (sym e.3) (made e.0 e.1 e.2).given in
     subst (λ (x : ℕ). CertaintyHoldsAt (Exact x) new r) (sym e.4) at
 
--- that number is at most as much
+-- a word that is sure to be an exact number is at most each bound of that number
 pub exact_at_most : (n most : ℕ) (k : Option AbstractValue) → n ≤ most → CertaintyHolds (Exact n) k → IsAtMost most k
 exact_at_most n most None le stands = absurd stands
 exact_at_most n most (Some k) le stands = (stands.0, let hi = stands.2 in omega (arith, hi, le))

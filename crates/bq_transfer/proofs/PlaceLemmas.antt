@@ -1,4 +1,4 @@
--- Where an access lies.
+-- Where an access lies: the sum of a known offset and the distance of the instruction.
 use Rattle.std.proofs.Common.{◌≡◌, ℕ, ◌+◌, ◌%◌, ◌^◌, ◌<◌, ◌≤◌, ℤ, pos, List, Option, Some, None, arith, refl, sym, subst, ap, ◌∙◌}
 use Rattle.std.specs.Prelude.{slice_index_or, ◌+ℤ◌}
 use Rattle.std.proofs.lemmas.Int.{ints}
@@ -19,7 +19,7 @@ use Rattle.bq_states.specs.Certainty.{Pointer, CertaintyHolds}
 use Rattle.bq_transfer.specs.Ready.{IsAccessPlaced}
 use Rattle.bq_states.specs.AbstractStates.{bound_of}
 
--- a sum of words
+-- the 64-bit sum of two words is the remainder of their sum by 2 ^ 64
 pub sum_is : (x y : ℕ) → alu_result W64 Add x y ≡ (x + y) % 2 ^ 64
 unfolding operate
 sum_is x y = let e : alu_result W64 Add x y ≡ (x % 2 ^ 64 + y % 2 ^ 64) % 2 ^ 64 = refl in omega (arith, e)
@@ -34,6 +34,7 @@ pub sum_with_short_offset : (base at : ℕ) (off : ℤ) → SFits w16 off → at
 sum_with_short_offset base at off fits small is =
     let e : (base + word_of off) % 2 ^ 64 ≡ at = omega (arith, ints) in sum_is base (word_of off) ∙ e
 
+-- an option that holds two numbers holds the same number twice
 option_same : (a b : ℕ) (v : Option ℕ) → Some a ≡ v → v ≡ Some b → a ≡ b
 option_same a b v p q = let e : Some a ≡ Some b = p ∙ q in cc
 

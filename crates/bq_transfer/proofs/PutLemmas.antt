@@ -26,6 +26,7 @@ pub left_from_set : (o : Operation) (v : Option ℕ) (a : ℕ) → v ≡ Some a 
 left_from_set op.Mov v a e = tt
 left_from_set _ v a e = e
 
+-- after register dst was given a described word, each register is as known, by whether it is dst
 put_at : (shapes : List MapShape) (regs : List (Option AbstractValue)) (register : ℕ → Option ℕ)
     (dst n : ℕ) (k : AbstractValue) (r : ℕ) (b : Bool)
     → dst < length regs → RegisterIsAsKnown shapes (get_or regs r None) (register r) → Describes shapes k n
@@ -47,7 +48,7 @@ contains_put f v s slots dst n k lt contains d = record {
   copies = copies_put v.classes v.related s slots dst n contains.copies;
 }
 
--- a register that is written with what it holds
+-- an abstract state still describes a state in which a register was written with the word that it holds
 pub contains_same : (f : Setting) (v : AbstractState) (s : State) (slots dst n : ℕ)
     → s.register dst ≡ Some n → Contains f v s → Contains f v (put s slots dst n)
 contains_same f v s slots dst n is contains = record {
@@ -114,12 +115,13 @@ carries_linked shapes context_length insn v dst slot k classes related lt low gi
       refl,
     )
 
+-- a map whose number is below the number of maps has a shape
 shape_at : (shapes : List MapShape) (m : ℕ) → m < length shapes → (shape : MapShape) × (slice_get shapes m ≡ Some shape)
 shape_at [] m lt = absurd (omega arith)
 shape_at (x ∷ xs) zero lt = (x, refl)
 shape_at (x ∷ xs) (suc m) lt = shape_at xs m (omega arith)
 
--- the reference of a map
+-- the reference of a map is described as a pointer to that map at offset 0
 pub reference_is : (shapes : List MapShape) (m : ℕ) (r : Range)
     → m < length shapes → m < 256 → r.lo ≡ 0
     → Describes shapes (record { kind = Map m; offset = r }) (reference m)

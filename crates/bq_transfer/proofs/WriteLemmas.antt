@@ -38,11 +38,12 @@ low_long Half v = refl
 low_long Word v = refl
 low_long Double v = refl
 
+-- each byte of a word is below 256
 byte_small : (i v : ℕ) → byte_of i v < 256
 byte_small zero v = omega arith
 byte_small (suc i) v = omega arith
 
--- each is a byte
+-- each of the low bytes of a word is below 256
 pub low_small : (size : Size) (v k : ℕ) → slice_index (low_bytes size v) k < 256
 low_small size v k = at (cases_lt k (byte_count size))
   where
@@ -52,6 +53,7 @@ low_small size v k = at (cases_lt k (byte_count size))
         let beyond : length (low_bytes size v) ≤ k = omega (arith, low_long size v) in
         rw (get_or_past (low_bytes size v) k 0 beyond) (omega arith)
 
+-- each slot is as known once slot j is known to keep a word that it holds, by whether it is slot j
 keeps_at : (f : Setting) (w : AbstractState) (t : State) (j i : ℕ) (k : AbstractValue) (b : Bool)
     → j < length w.kept → StackIsAsKnown f.shapes (Some k) t.stack j → Contains f w t
     → ((b ≡ true) × (i ≡ j)) ⊎ ((b ≡ false) × (i ≢ j))
@@ -62,7 +64,7 @@ keeps_at f w t j i k b there keeps contains (inr (_, other)) =
     subst (λ (v : Option AbstractValue). StackIsAsKnown f.shapes v t.stack i)
     (sym (get_or-set_other w.kept j i (Some k) None other)) (contains.kept i)
 
--- a slot whose word is known
+-- an abstract state that keeps a word in a slot describes a state in which the slot holds a word so known
 pub contains_keeping : (f : Setting) (w : AbstractState) (t : State) (j : ℕ) (k : AbstractValue)
     → j < length w.kept → StackIsAsKnown f.shapes (Some k) t.stack j → Contains f w t
     → Contains f (keeping w j k) t
@@ -113,6 +115,7 @@ slot_word shapes s k at size o v n (there, double, low, high) within d =
           ),
     )
 
+-- what holds of a slot, if there is one, holds of the slot that is there
 some_slot : (slot : Option ℕ) (n : ℕ) (P : ℕ → Type 0) → IfSome slot P → slot ≡ Some n → P n
 some_slot None n P h e = absurd (let no : ⊥ = cc in no)
 some_slot (Some m) n P h e = let same : m ≡ n = cc in subst P same h
@@ -192,7 +195,7 @@ contains_classes f v t classes related copies contains = record {
   copies = copies;
 }
 
--- where a register can be stored, the instruction leads to the abstract state after it, with classes and relations that are right there
+-- where a register can be stored, the instruction leads to the abstract state after it, with right classes and relations
 pub carries_reg : (shapes : List MapShape) (context_length dst src : ℕ) (off : ℤ) (size : Size) (k : AbstractValue)
     (old new : AbstractState) (slot : Option ℕ) (classes : List ℕ) (related : List (Option Related))
     → ((f : Setting) (s : State) → Contains f old s → (v : ℕ) × (s.register src ≡ Some v) × Describes f.shapes k v)
