@@ -12,6 +12,7 @@ use Rattle.bq_workload.specs.Accounts.{Accounts, changed_at, is_same}
 use Rattle.bq_workload.specs.Dues.{IsDropped, IsDue, IsPlanned, phase_end, due_place, until}
 use Rattle.bq_workload.specs.Minima.{at_place, due_number}
 use Rattle.bq_workload.specs.Next.{AgreesAt, HasHome, HaveHomes, TaskRests, comes_at, phase_ends_at, runs_at}
+use Rattle.bq_disc.specs.declared.limits.TheConstants.{PROCESSORS}
 
 -- a write to one place leaves the others
 pub slice_get-set_other : {A : Type 0} (xs : List A) (n k : ℕ) (x : A) → k ≢ n → slice_get (slice_set xs n x) k ≡ slice_get xs k
@@ -101,7 +102,7 @@ ends-same end cs ds processor_state same =
 pub kept-end : (end q : ℕ) (a b : Accounts) (x y : List ℕ) → slice_get b.by_processor q ≡ slice_get a.by_processor q
     → ((task : ℕ) (processor_state : ProcessorState) → slice_get a.by_processor q ≡ Some processor_state →
     processor_state.run ≡ Some task → slice_get b.by_task task ≡ slice_get a.by_task task)
-    → (q < 64 → at_place y q ≡ at_place x q) → AgreesAt end a x (End q)
+    → (q < PROCESSORS → at_place y q ≡ at_place x q) → AgreesAt end a x (End q)
     → AgreesAt end b y (End q)
 kept-end end q a b x y by_processor by_task place h =
     let at : List TaskProgress → Option ProcessorState → Option ℕ = λ cs o. option_and_then (phase_ends_at end cs) o in

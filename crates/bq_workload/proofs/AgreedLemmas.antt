@@ -4,6 +4,8 @@ use Rattle.std.specs.Prelude.{option_and_then, option_map, slice_get, slice_set,
 use Rattle.std.specs.Option.{option_map_or}
 use Rattle.std.proofs.lemmas.Bool.{cases_eq}
 use Rattle.std.proofs.lemmas.Option.{none-some, same_Some}
+use Rattle.bq_workload.specs.declared.due.TheConstants.{FIRST_LOOK, FIRST_TICK, FIRST_WAKE}
+use Rattle.bq_workload.specs.declared.event_queue.TheConstants.{LEAVES}
 use Rattle.bq_workload.specs.declared.progress.TaskProgress.{TaskProgress}
 use Rattle.bq_workload.specs.declared.due.Due.{Due}
 use Rattle.bq_workload.specs.declared.due.Due.TheVariants.{End, Wake, Tick, Look}
@@ -16,6 +18,7 @@ use Rattle.bq_workload.specs.Minima.{at_place}
 use Rattle.bq_workload.specs.Next.{QueueAgrees, AgreesAt, HasHome, HaveHomes, TaskRests, comes_at, phase_ends_at, rings_at}
 use Rattle.bq_workload.specs.Plans.{PlansLook, PlansNone, PlansTask, PlansTick}
 use Rattle.bq_workload.proofs.AgreeLemmas.{changed_at-here, changed_at-others, changed_at-read, agrees_if_dropped, agrees_if_kept, kept-end, kept-home, resting_runs_nowhere, one-home, agrees_if_planned, some_or_none}
+use Rattle.bq_disc.specs.declared.limits.TheConstants.{PROCESSORS}
 
 -- accounts of these tasks' progress and processors
 abbrev pub both : List TaskProgress → List ProcessorState → Accounts
@@ -67,11 +70,11 @@ with_end end p a x h at (Look q) = h.looks q
 
 -- only at the places of a processor has an event queue changed
 abbrev Elsewhere : ℕ → List ℕ → List ℕ → Type 0
-Elsewhere p x y = (k : ℕ) → k < 2048 → k ≢ p → k ≢ 1088 + p → k ≢ 1152 + p → at_place y k ≡ at_place x k
+Elsewhere p x y = (k : ℕ) → k < LEAVES → k ≢ p → k ≢ FIRST_TICK + p → k ≢ FIRST_LOOK + p → at_place y k ≡ at_place x k
 
 -- only one processor has changed, and what is due there agrees
 pub record Changes (end p : ℕ) (a b : Accounts) (x y : List ℕ) : Type 0 where
-  pub low : p < 64
+  pub low : p < PROCESSORS
   pub by_processor : (q : ℕ) → q ≢ p → slice_get b.by_processor q ≡ slice_get a.by_processor q
   pub by_task : (q task : ℕ) (processor_state : ProcessorState)
       → q ≢ p → slice_get a.by_processor q ≡ Some processor_state → processor_state.run ≡ Some task
@@ -94,20 +97,20 @@ after-change end p a b x y h c =
     (λ few. c.places q (omega arith) other (omega arith) (omega arith)) (h.ends q other) in
     let wakes : (k : ℕ) → AgreesAt end b y (Wake k) = λ k.
     agrees_if_kept end a b x y (Wake k) (c.rings k)
-    (λ few. c.places (64 + k) (omega arith) (omega arith) (omega arith) (omega arith)) (h.wakes k) in
+    (λ few. c.places (FIRST_WAKE + k) (omega arith) (omega arith) (omega arith) (omega arith)) (h.wakes k) in
     let ticks : (q : ℕ) → AgreesAt end b y (Tick q) = λ q. elim (cases_eq q p) [
       | inl same ↦ subst (λ k. AgreesAt end b y (Tick k)) (sym same) c.ticks
       | inr other ↦
           agrees_if_kept end a b x y (Tick q)
           (ap (λ (o : Option ProcessorState). option_and_then (tick_at end) o) (c.by_processor q other))
-          (λ few. c.places (1088 + q) (omega arith) (omega arith) (omega arith) (omega arith)) (h.ticks q)
+          (λ few. c.places (FIRST_TICK + q) (omega arith) (omega arith) (omega arith) (omega arith)) (h.ticks q)
     ] in
     let looks : (q : ℕ) → AgreesAt end b y (Look q) = λ q. elim (cases_eq q p) [
       | inl same ↦ subst (λ k. AgreesAt end b y (Look k)) (sym same) c.looks
       | inr other ↦
           agrees_if_kept end a b x y (Look q)
           (ap (λ (o : Option ProcessorState). option_and_then (look_at end) o) (c.by_processor q other))
-          (λ few. c.places (1152 + q) (omega arith) (omega arith) (omega arith) (omega arith)) (h.looks q)
+          (λ few. c.places (FIRST_LOOK + q) (omega arith) (omega arith) (omega arith) (omega arith)) (h.looks q)
     ] in
     let homes : HaveHomes b = λ q task processor_state at runs. elim (cases_eq q p) [
       | inl same ↦
@@ -187,7 +190,7 @@ agrees_if_times_same end p f a b x y run ends tick look is event_queue h =
     let c = of_processor f p a in
     let place : (due : Due) → IsDue due → at_place y (due_place due) ≡ at_place x (due_place due) =
     λ due there. ap (λ (l : List ℕ). at_place l (due_place due)) event_queue in
-    let at : AgreesBut end 64 c y = record {
+    let at : AgreesBut end PROCESSORS c y = record {
       ends = λ q other.
           agrees_if_kept end a c x y (End q) (changed_at-read f (phase_ends_at end a.by_task) (ends a.by_task) a.by_processor p q)
           (place (End q)) (h.all (End q));
@@ -204,8 +207,8 @@ agrees_if_times_same end p f a b x y run ends tick look is event_queue h =
     } in
     let whole : QueueAgrees end c y = record {
       all =
-          with_end end 64 c y at (agrees_if_kept end a c x y (End 64)
-          (changed_at-read f (phase_ends_at end a.by_task) (ends a.by_task) a.by_processor p 64) (place (End 64)) (h.all (End 64)));
+          with_end end PROCESSORS c y at (agrees_if_kept end a c x y (End PROCESSORS)
+          (changed_at-read f (phase_ends_at end a.by_task) (ends a.by_task) a.by_processor p PROCESSORS) (place (End PROCESSORS)) (h.all (End PROCESSORS)));
       homes = at.homes;
     } in
     subst (λ (z : Accounts). QueueAgrees end z y) (sym is) whole
@@ -334,11 +337,11 @@ tick-planned : (periods : Periods) (p now : ℕ) (tick : Option ℕ) (a b : Acco
 tick-planned periods p now None a b x y was is plans h =
     agrees_if_planned periods.end (next_multiple periods.tick now) b x y (Tick p) plans is
 tick-planned periods p now (Some time) a b x y was is same h =
-    agrees_if_kept periods.end a b x y (Tick p) (is ∙ sym was) (λ low. ap (λ (l : List ℕ). at_place l (1088 + p)) same) h
+    agrees_if_kept periods.end a b x y (Tick p) (is ∙ sym was) (λ low. ap (λ (l : List ℕ). at_place l (FIRST_TICK + p)) same) h
 
 -- a tick that is put down leaves what is due at every other place
 tick-others : (periods : Periods) (p now : ℕ) (tick : Option ℕ) (x y : List ℕ)
-    → PlansTick periods p now tick x y → (k : ℕ) → k < 2048 → k ≢ 1088 + p → at_place y k ≡ at_place x k
+    → PlansTick periods p now tick x y → (k : ℕ) → k < LEAVES → k ≢ FIRST_TICK + p → at_place y k ≡ at_place x k
 tick-others periods p now None x y plans k few other = plans.others k few other
 tick-others periods p now (Some time) x y same k few other = ap (λ (l : List ℕ). at_place l k) same
 
@@ -349,12 +352,12 @@ look-planned : (periods : Periods) (p now : ℕ) (look : Option ℕ) (a b : Acco
     → PlansLook periods p now look x y → AgreesAt periods.end a x (Look p)
     → AgreesAt periods.end b y (Look p)
 look-planned periods p now None a b x y was is same h =
-    agrees_if_kept periods.end a b x y (Look p) (is ∙ sym was) (λ low. ap (λ (l : List ℕ). at_place l (1152 + p)) same) h
+    agrees_if_kept periods.end a b x y (Look p) (is ∙ sym was) (λ low. ap (λ (l : List ℕ). at_place l (FIRST_LOOK + p)) same) h
 look-planned periods p now (Some time) a b x y was is plans h = agrees_if_planned periods.end now b x y (Look p) plans is
 
 -- a look that is put down leaves what is due at every other place
 look-others : (periods : Periods) (p now : ℕ) (look : Option ℕ) (x y : List ℕ)
-    → PlansLook periods p now look x y → (k : ℕ) → k < 2048 → k ≢ 1152 + p → at_place y k ≡ at_place x k
+    → PlansLook periods p now look x y → (k : ℕ) → k < LEAVES → k ≢ FIRST_LOOK + p → at_place y k ≡ at_place x k
 look-others periods p now None x y same k few other = ap (λ (l : List ℕ). at_place l k) same
 look-others periods p now (Some time) x y plans k few other = plans.others k few other
 
@@ -372,7 +375,7 @@ started-agrees periods p t now processor_state c a b x y h at rests is there pla
     let d : Accounts = both (changed_at g a.by_task t) (changed_at f a.by_processor p) in
     let new : slice_get d.by_processor p ≡ Some (f processor_state) = changed_at-here f a.by_processor p processor_state at in
     let runs : slice_get d.by_task t ≡ Some c = ap (λ (z : Accounts). slice_get z.by_task t) (sym is) ∙ there in
-    let low : p < 64 = plans.ends.there in
+    let low : p < PROCESSORS = plans.ends.there in
     let alone : (q task : ℕ) (l : ProcessorState) → slice_get a.by_processor q ≡ Some l → l.run ≡ Some task → task ≢ t =
     λ q task l here mine same. resting_runs_nowhere a t h.homes rests q l here (mine ∙ ap (λ (n : ℕ). Some n) same) in
     let mid : AgreesAt end d plans.mid (Tick p) =
@@ -386,13 +389,13 @@ started-agrees periods p t now processor_state c a b x y h at rests is there pla
       places = λ k few one two three.
           plans.ends.others k few one ∙ tick-others periods p now processor_state.tick x plans.mid plans.ticks k few two;
       ends = agrees_if_planned end (phase_end now c) d plans.mid y (End p) plans.ends (end-of end p t d (f processor_state) c new refl runs);
-      ticks = agrees_if_same_there end d plans.mid y (Tick p) (λ few. plans.ends.others (1088 + p) (omega arith) (omega arith)) mid;
+      ticks = agrees_if_same_there end d plans.mid y (Tick p) (λ few. plans.ends.others (FIRST_TICK + p) (omega arith) (omega arith)) mid;
       looks =
           agrees_if_kept end a d x y (Look p)
           (look-of end p d (f processor_state) new ∙ sym (look-of end p a processor_state at))
           (λ few.
-          plans.ends.others (1152 + p) (omega arith) (omega arith)
-          ∙ tick-others periods p now processor_state.tick x plans.mid plans.ticks (1152 + p) (omega arith) (omega arith))
+          plans.ends.others (FIRST_LOOK + p) (omega arith) (omega arith)
+          ∙ tick-others periods p now processor_state.tick x plans.mid plans.ticks (FIRST_LOOK + p) (omega arith) (omega arith))
           (h.looks p);
       home = λ task l here mine.
           let processor_state_is : l ≡ f processor_state = same_Some l (f processor_state) (sym here ∙ new) in
@@ -412,13 +415,13 @@ idled-agrees periods p now processor_state a b x y h at is plans =
     let f : ProcessorState → ProcessorState = idled now in
     let d : Accounts = both a.by_task (changed_at f a.by_processor p) in
     let new : slice_get d.by_processor p ≡ Some (f processor_state) = changed_at-here f a.by_processor p processor_state at in
-    let low : p < 64 = plans.ends.there in
+    let low : p < PROCESSORS = plans.ends.there in
     let one = plans.ends.others in
     let two = plans.ticks.others in
     let three = look-others periods p now processor_state.look plans.still y plans.looks in
     let still : AgreesAt end a plans.still (Look p) =
     agrees_if_same_there end a x plans.still (Look p)
-    (λ few. two (1152 + p) (omega arith) (omega arith) ∙ one (1152 + p) (omega arith) (omega arith)) (h.looks p) in
+    (λ few. two (FIRST_LOOK + p) (omega arith) (omega arith) ∙ one (FIRST_LOOK + p) (omega arith) (omega arith)) (h.looks p) in
     let whole : QueueAgrees end d y = after-change end p a d x y h (record {
       low = low;
       by_processor = λ q other. changed_at-others f a.by_processor p q other;
@@ -430,7 +433,7 @@ idled-agrees periods p now processor_state a b x y h at is plans =
           (λ few. three p (omega arith) (omega arith) ∙ two p (omega arith) (omega arith))
           (agrees_if_dropped end d x plans.ended (End p) plans.ends (end-none end p d (f processor_state) new refl));
       ticks =
-          agrees_if_same_there end d plans.still y (Tick p) (λ few. three (1088 + p) (omega arith) (omega arith))
+          agrees_if_same_there end d plans.still y (Tick p) (λ few. three (FIRST_TICK + p) (omega arith) (omega arith))
           (agrees_if_dropped end d plans.ended plans.still (Tick p) plans.ticks (tick-of end p d (f processor_state) new));
       looks =
           look-planned periods p now processor_state.look a d plans.still y (look-of end p a processor_state at)

@@ -4,6 +4,8 @@ use Rattle.std.specs.Prelude.{◌&&◌, IfSome, OnOk, Ok, Err, Result, if◌then
 use Rattle.std.specs.Option.{option_map_or}
 use Rattle.std.proofs.lemmas.Bool.{cases_eq, cases_lt, le-leb, le-ltb, lt-leb, lt-ltb, ltb-false, ltb-true}
 use Rattle.std.proofs.lemmas.Option.{none-some, same_Some}
+use Rattle.bq_workload.specs.declared.due.TheConstants.{FIRST_LOOK, FIRST_TICK, FIRST_WAKE, PLACES}
+use Rattle.bq_workload.specs.declared.event_queue.TheConstants.{INSTANT, LEAVES}
 use Rattle.bq_workload.specs.declared.progress.TaskProgress.{TaskProgress}
 use Rattle.bq_workload.specs.declared.progress.TaskState.{TaskState}
 use Rattle.bq_workload.specs.declared.progress.TaskState.TheVariants.{Asleep, Waiting, Runnable, Over}
@@ -20,6 +22,7 @@ use Rattle.bq_workload.specs.Next.{QueueAgrees, AgreesAt, HasHome, HaveHomes, Is
 use Rattle.bq_workload.specs.Plans.{PlansProgress, PlansTimer}
 use Rattle.bq_workload.proofs.AgreeLemmas.{changed_at-here, changed_at-others, changed_at-read, agrees_if_dropped, agrees_if_kept, kept-end, kept-home, resting_runs_nowhere, one-home, agrees_if_planned, slice_get-set_here, slice_get-set_other, some_or_none}
 use Rattle.bq_workload.proofs.AgreedLemmas.{AgreesBut, after-change, both, agrees_but_one_end, charged-agrees, charged-is, counted, counted-here, end-of, homes-read, agrees_if_same_there, agrees_if_times_same, look_at, look-of, since_now, tick_at, tick-of, with_end}
+use Rattle.bq_disc.specs.declared.limits.TheConstants.{PROCESSORS, TASKS}
 
 -- a phase that has just ended ends when it was to
 ends-now : (since now : ℕ) (c : TaskProgress) → since ≤ now → now < 2 ^ 64 → c.got + (now - since) ≡ c.due
@@ -70,7 +73,7 @@ pub beaten-agrees : (end p now between : ℕ) (a b : Accounts) (x y : List ℕ) 
 beaten-agrees end p now between a b x y processor_state at is plan h =
     let f : ProcessorState → ProcessorState = λ l. record l { tick = Some (next_multiple between now) } in
     let d = of_processor f p a in
-    let low : p < 64 = plan.there in
+    let low : p < PROCESSORS = plan.there in
     let new : slice_get d.by_processor p ≡ Some (f processor_state) = changed_at-here f a.by_processor p processor_state at in
     let homes : HaveHomes d = homes-read f (λ l. refl) p a d refl (λ k. refl) h.homes in
     let whole : QueueAgrees end d y = after-change end p a d x y (agrees_but_one_end end p a x h) (record {
@@ -85,7 +88,7 @@ beaten-agrees end p now between a b x y processor_state at is plan h =
       ticks = agrees_if_planned end (next_multiple between now) d x y (Tick p) plan (tick-of end p d (f processor_state) new);
       looks =
           agrees_if_kept end a d x y (Look p) (changed_at-read f (look_at end) (λ l. refl) a.by_processor p p)
-          (λ few. plan.others (1152 + p) (omega arith) (omega arith)) (h.all (Look p));
+          (λ few. plan.others (FIRST_LOOK + p) (omega arith) (omega arith)) (h.all (Look p));
       home = λ task l here mine. homes p task l here mine;
     }) in
     subst (λ (z : Accounts). QueueAgrees end z y) (sym is) whole
@@ -98,7 +101,7 @@ pub looked-agrees : (end p now between : ℕ) (a b : Accounts) (x y : List ℕ) 
 looked-agrees end p now between a b x y processor_state at is plan h =
     let f : ProcessorState → ProcessorState = λ l. record l { look = Some (next_multiple between now) } in
     let d = of_processor f p a in
-    let low : p < 64 = plan.there in
+    let low : p < PROCESSORS = plan.there in
     let new : slice_get d.by_processor p ≡ Some (f processor_state) = changed_at-here f a.by_processor p processor_state at in
     let homes : HaveHomes d = homes-read f (λ l. refl) p a d refl (λ k. refl) h.homes in
     let whole : QueueAgrees end d y = after-change end p a d x y (agrees_but_one_end end p a x h) (record {
@@ -112,7 +115,7 @@ looked-agrees end p now between a b x y processor_state at is plan h =
           (λ few. plan.others p (omega arith) (omega arith)) (h.all (End p));
       ticks =
           agrees_if_kept end a d x y (Tick p) (changed_at-read f (tick_at end) (λ l. refl) a.by_processor p p)
-          (λ few. plan.others (1088 + p) (omega arith) (omega arith)) (h.all (Tick p));
+          (λ few. plan.others (FIRST_TICK + p) (omega arith) (omega arith)) (h.all (Tick p));
       looks = agrees_if_planned end (next_multiple between now) d x y (Look p) plan (look-of end p d (f processor_state) new);
       home = λ task l here mine. homes p task l here mine;
     }) in
@@ -134,7 +137,7 @@ timer-planned end task timer Over b x y is plan = agrees_if_dropped end b x y (W
 
 -- a timer that is put down, or dropped, leaves what is due at every other place
 timer-others : (end task timer : ℕ) (task_state : TaskState) (x y : List ℕ)
-    → PlansTimer end task task_state timer x y → (k : ℕ) → k < 2048 → k ≢ 64 + task
+    → PlansTimer end task task_state timer x y → (k : ℕ) → k < LEAVES → k ≢ FIRST_WAKE + task
     → at_place y k ≡ at_place x k
 timer-others end task timer Asleep x y plan k few other = plan.others k few other
 timer-others end task timer Waiting x y plan k few other = plan.others k few other
@@ -142,7 +145,7 @@ timer-others end task timer Runnable x y plan k few other = plan.others k few ot
 timer-others end task timer Over x y plan k few other = plan.others k few other
 
 -- a task whose timer is put down, or dropped, has a number below the most tasks
-timer-there : (end task timer : ℕ) (task_state : TaskState) (x y : List ℕ) → PlansTimer end task task_state timer x y → task < 1024
+timer-there : (end task timer : ℕ) (task_state : TaskState) (x y : List ℕ) → PlansTimer end task task_state timer x y → task < TASKS
 timer-there end task timer Asleep x y plan = plan.there
 timer-there end task timer Waiting x y plan = plan.there
 timer-there end task timer Runnable x y plan = plan.there
@@ -158,8 +161,8 @@ taken_up-agrees end p task processor_state c a b x y at by_task by_processor pla
     let is : b ≡ d =
     ap (λ (l : List TaskProgress). both l b.by_processor) by_task
     ∙ ap (λ (l : List ProcessorState). both (slice_set a.by_task task c) l) by_processor in
-    let low : p < 64 = plan.ends.there in
-    let few : task < 1024 = timer-there end task c.timer c.task_state x plan.mid plan.timer in
+    let low : p < PROCESSORS = plan.ends.there in
+    let few : task < TASKS = timer-there end task c.timer c.task_state x plan.mid plan.timer in
     let home : HasHome a task p = h.homes p task processor_state at plan.runs in
     let there : slice_get d.by_task task ≡ Some c = slice_get-set_here a.by_task task c home.progress home.there in
     let others : (k : ℕ) → k ≢ task → slice_get d.by_task k ≡ slice_get a.by_task k =
@@ -170,12 +173,12 @@ taken_up-agrees end p task processor_state c a b x y at by_task by_processor pla
     let wakes : (k : ℕ) → AgreesAt end d y (Wake k) = λ k. elim (cases_eq k task) [
       | inl same ↦
           subst (λ (n : ℕ). AgreesAt end d y (Wake n)) (sym same)
-          (agrees_if_same_there end d plan.mid y (Wake task) (λ small. one (64 + task) (omega arith) (omega arith))
+          (agrees_if_same_there end d plan.mid y (Wake task) (λ small. one (FIRST_WAKE + task) (omega arith) (omega arith))
           (timer-planned end task c.timer c.task_state d x plan.mid (ring-of end task d c there) plan.timer))
       | inr other ↦
           agrees_if_kept end a d x y (Wake k)
           (ap (λ (o : Option TaskProgress). option_and_then (λ e. rings_at end e.task_state e.timer) o) (others k other))
-          (λ small. one (64 + k) (omega arith) (omega arith) ∙ two (64 + k) (omega arith) (omega arith)) (h.all (Wake k))
+          (λ small. one (FIRST_WAKE + k) (omega arith) (omega arith) ∙ two (FIRST_WAKE + k) (omega arith) (omega arith)) (h.all (Wake k))
     ] in
     let homes : HaveHomes d = λ q k l here runs. elim (cases_eq k task) [
       | inl same ↦
@@ -194,10 +197,10 @@ taken_up-agrees end p task processor_state c a b x y at by_task by_processor pla
       wakes = wakes;
       ticks = λ q.
           agrees_if_kept end a d x y (Tick q) refl
-          (λ small. one (1088 + q) (omega arith) (omega arith) ∙ two (1088 + q) (omega arith) (omega arith)) (h.all (Tick q));
+          (λ small. one (FIRST_TICK + q) (omega arith) (omega arith) ∙ two (FIRST_TICK + q) (omega arith) (omega arith)) (h.all (Tick q));
       looks = λ q.
           agrees_if_kept end a d x y (Look q) refl
-          (λ small. one (1152 + q) (omega arith) (omega arith) ∙ two (1152 + q) (omega arith) (omega arith)) (h.all (Look q));
+          (λ small. one (FIRST_LOOK + q) (omega arith) (omega arith) ∙ two (FIRST_LOOK + q) (omega arith) (omega arith)) (h.all (Look q));
       homes = homes;
     } in
     let ends =
@@ -214,14 +217,14 @@ woken-agrees end task a b x y rests is plan h =
     let there : slice_get d.by_task task ≡ Some (progress_woken rests.progress) = changed_at-here progress_woken a.by_task task rests.progress rests.there in
     let others : (k : ℕ) → k ≢ task → slice_get d.by_task k ≡ slice_get a.by_task k =
     λ k other. changed_at-others progress_woken a.by_task task k other in
-    let few : task < 1024 = plan.there in
+    let few : task < TASKS = plan.there in
     let alone : (q k : ℕ) (l : ProcessorState) → slice_get a.by_processor q ≡ Some l → l.run ≡ Some k → k ≢ task =
     λ q k l here runs same. resting_runs_nowhere a task h.homes rests q l here (runs ∙ ap (λ (n : ℕ). Some n) same) in
     let homes : HaveHomes d = λ q k l here runs. kept-home a d k q (others k (alone q k l here runs)) (h.homes q k l here runs) in
     let ends : (q : ℕ) → AgreesAt end d y (End q) = λ q.
     kept-end end q a d x y refl (λ k l here runs. others k (alone q k l here runs))
     (λ small. plan.others q (omega arith) (omega arith)) (h.all (End q)) in
-    let rest : AgreesBut end 64 d y = record {
+    let rest : AgreesBut end PROCESSORS d y = record {
       ends = λ q other. ends q;
       wakes = λ k. elim (cases_eq k task) [
         | inl same ↦
@@ -230,13 +233,13 @@ woken-agrees end task a b x y rests is plan h =
         | inr other ↦
             agrees_if_kept end a d x y (Wake k)
             (ap (λ (o : Option TaskProgress). option_and_then (λ e. rings_at end e.task_state e.timer) o) (others k other))
-            (λ small. plan.others (64 + k) (omega arith) (omega arith)) (h.all (Wake k))
+            (λ small. plan.others (FIRST_WAKE + k) (omega arith) (omega arith)) (h.all (Wake k))
       ];
-      ticks = λ q. agrees_if_kept end a d x y (Tick q) refl (λ small. plan.others (1088 + q) (omega arith) (omega arith)) (h.all (Tick q));
-      looks = λ q. agrees_if_kept end a d x y (Look q) refl (λ small. plan.others (1152 + q) (omega arith) (omega arith)) (h.all (Look q));
+      ticks = λ q. agrees_if_kept end a d x y (Tick q) refl (λ small. plan.others (FIRST_TICK + q) (omega arith) (omega arith)) (h.all (Tick q));
+      looks = λ q. agrees_if_kept end a d x y (Look q) refl (λ small. plan.others (FIRST_LOOK + q) (omega arith) (omega arith)) (h.all (Look q));
       homes = homes;
     } in
-    let whole : QueueAgrees end d y = record { all = with_end end 64 d y rest (ends 64); homes = homes } in
+    let whole : QueueAgrees end d y = record { all = with_end end PROCESSORS d y rest (ends PROCESSORS); homes = homes } in
     subst (λ (z : Accounts). QueueAgrees end z y) (sym is) whole
 
 -- what stands in a list stands in a longer one
@@ -268,7 +271,7 @@ added-agrees end task c a b x y number asleep by_task by_processor plan h =
     let is : b ≡ d =
     ap (λ (l : List TaskProgress). both l b.by_processor) by_task
     ∙ ap (λ (l : List ProcessorState). both (a.by_task ++ c ∷ []) l) by_processor in
-    let few : task < 1024 = plan.there in
+    let few : task < TASKS = plan.there in
     let there : slice_get d.by_task task ≡ Some c = last-of a.by_task c task number in
     let others : (k : ℕ) → k ≢ task → slice_get d.by_task k ≡ slice_get a.by_task k =
     λ k other. others-of a.by_task c k (λ e. other (e ∙ sym number)) in
@@ -280,7 +283,7 @@ added-agrees end task c a b x y number asleep by_task by_processor plan h =
     let homes : HaveHomes d = λ q k l here runs. kept-home a d k q (stays q k l here runs) (h.homes q k l here runs) in
     let ends : (q : ℕ) → AgreesAt end d y (End q) =
     λ q. kept-end end q a d x y refl (stays q) (λ small. plan.others q (omega arith) (omega arith)) (h.all (End q)) in
-    let rest : AgreesBut end 64 d y = record {
+    let rest : AgreesBut end PROCESSORS d y = record {
       ends = λ q other. ends q;
       wakes = λ k. elim (cases_eq k task) [
         | inl same ↦
@@ -290,13 +293,13 @@ added-agrees end task c a b x y number asleep by_task by_processor plan h =
         | inr other ↦
             agrees_if_kept end a d x y (Wake k)
             (ap (λ (o : Option TaskProgress). option_and_then (λ e. rings_at end e.task_state e.timer) o) (others k other))
-            (λ small. plan.others (64 + k) (omega arith) (omega arith)) (h.all (Wake k))
+            (λ small. plan.others (FIRST_WAKE + k) (omega arith) (omega arith)) (h.all (Wake k))
       ];
-      ticks = λ q. agrees_if_kept end a d x y (Tick q) refl (λ small. plan.others (1088 + q) (omega arith) (omega arith)) (h.all (Tick q));
-      looks = λ q. agrees_if_kept end a d x y (Look q) refl (λ small. plan.others (1152 + q) (omega arith) (omega arith)) (h.all (Look q));
+      ticks = λ q. agrees_if_kept end a d x y (Tick q) refl (λ small. plan.others (FIRST_TICK + q) (omega arith) (omega arith)) (h.all (Tick q));
+      looks = λ q. agrees_if_kept end a d x y (Look q) refl (λ small. plan.others (FIRST_LOOK + q) (omega arith) (omega arith)) (h.all (Look q));
       homes = homes;
     } in
-    let whole : QueueAgrees end d y = record { all = with_end end 64 d y rest (ends 64); homes = homes } in
+    let whole : QueueAgrees end d y = record { all = with_end end PROCESSORS d y rest (ends PROCESSORS); homes = homes } in
     subst (λ (z : Accounts). QueueAgrees end z y) (sym is) whole
 
 -- accounts of the same tasks' progress and processors are the same
@@ -355,7 +358,7 @@ charged-agreed p now processor_state r s at is event_queue periods h =
     (subst (λ (a : Accounts). AgreesBut end p a r.event_queue) (sym is) but))
 
 -- places of what is due, and what is due at a place
-place-low : (due : Due) → IsDue due → due_place due < 1216
+place-low : (due : Due) → IsDue due → due_place due < PLACES
 place-low (End p) h = omega (arith, h)
 place-low (Wake k) h = omega (arith, h)
 place-low (Tick p) h = omega (arith, h)
@@ -366,32 +369,32 @@ abbrev Stands : ℕ → Due → Type 0
 Stands n due = IsDue due × (due_place due ≡ n)
 
 -- the thing that the bounds of a place choose is due, and has that place
-stands-by : (n : ℕ) (due : Due) (a b c d : Bool) → nat_lt n 64 ≡ a → nat_lt n 1088 ≡ b → nat_lt n 1152 ≡ c → nat_lt n 1216 ≡ d
-    → (if a then Some (End n) else if b then Some (Wake (n - 64)) else if c then Some (Tick (n - 1088))
-    else if d then Some (Look (n - 1152)) else None)
+stands-by : (n : ℕ) (due : Due) (a b c d : Bool) → nat_lt n FIRST_WAKE ≡ a → nat_lt n FIRST_TICK ≡ b → nat_lt n FIRST_LOOK ≡ c → nat_lt n PLACES ≡ d
+    → (if a then Some (End n) else if b then Some (Wake (n - FIRST_WAKE)) else if c then Some (Tick (n - FIRST_TICK))
+    else if d then Some (Look (n - FIRST_LOOK)) else None)
     ≡ Some due
     → Stands n due
-stands-by n due true b c d e f g h is = subst (Stands n) (same_Some (End n) due is) (ltb-true n 64 e, refl)
+stands-by n due true b c d e f g h is = subst (Stands n) (same_Some (End n) due is) (ltb-true n FIRST_WAKE e, refl)
 stands-by n due false true c d e f g h is =
-    let low = ltb-false n 64 e in
-    let high = ltb-true n 1088 f in
-    subst (Stands n) (same_Some (Wake (n - 64)) due is) (omega (arith, low, high), omega (arith, low, high))
+    let low = ltb-false n FIRST_WAKE e in
+    let high = ltb-true n FIRST_TICK f in
+    subst (Stands n) (same_Some (Wake (n - FIRST_WAKE)) due is) (omega (arith, low, high), omega (arith, low, high))
 stands-by n due false false true d e f g h is =
-    let low = ltb-false n 1088 f in
-    let high = ltb-true n 1152 g in
-    subst (Stands n) (same_Some (Tick (n - 1088)) due is) (omega (arith, low, high), omega (arith, low, high))
+    let low = ltb-false n FIRST_TICK f in
+    let high = ltb-true n FIRST_LOOK g in
+    subst (Stands n) (same_Some (Tick (n - FIRST_TICK)) due is) (omega (arith, low, high), omega (arith, low, high))
 stands-by n due false false false true e f g h is =
-    let low = ltb-false n 1152 g in
-    let high = ltb-true n 1216 h in
-    subst (Stands n) (same_Some (Look (n - 1152)) due is) (omega (arith, low, high), omega (arith, low, high))
+    let low = ltb-false n FIRST_LOOK g in
+    let high = ltb-true n PLACES h in
+    subst (Stands n) (same_Some (Look (n - FIRST_LOOK)) due is) (omega (arith, low, high), omega (arith, low, high))
 stands-by n due false false false false e f g h is = absurd (none-some due is)
 
 -- the thing at a place is due, and has that place
 stands : (n : ℕ) (due : Due) → due_at n ≡ Some due → Stands n due
-stands n due is = stands-by n due (nat_lt n 64) (nat_lt n 1088) (nat_lt n 1152) (nat_lt n 1216) refl refl refl refl is
+stands n due is = stands-by n due (nat_lt n FIRST_WAKE) (nat_lt n FIRST_TICK) (nat_lt n FIRST_LOOK) (nat_lt n PLACES) refl refl refl refl is
 
 -- a number below a place that is never due says when it is due
-number-is : (p time : ℕ) (o : Option ℕ) → p < 1216 → due_number p o ≡ time * 2048 + p → o ≡ Some time
+number-is : (p time : ℕ) (o : Option ℕ) → p < PLACES → due_number p o ≡ time * INSTANT + p → o ≡ Some time
 number-is p time None low is = absurd (omega (arith, low, is))
 number-is p time (Some t) low is = ap (λ (n : ℕ). Some n) (let e : t ≡ time = omega (arith, is) in e)
 
@@ -400,20 +403,20 @@ pub first-next : (end : ℕ) (a : Accounts) (x : List ℕ) (time place : ℕ) (d
     → IsFirstDue x time place → due_at place ≡ Some due → QueueAgrees end a x → IsNextDue end a due time
 first-next end a x time place due first at h =
     let stand : Stands place due = stands place due at in
-    let low : due_place due < 1216 = place-low due stand.0 in
-    let taken : at_place x (due_place due) ≡ time * 2048 + due_place due =
-    subst (λ (n : ℕ). at_place x n ≡ time * 2048 + n) (sym stand.1) first.taken in
-    let bound : (other : Due) → IsDue other → time * 2048 + due_place due ≤ at_place x (due_place other) =
+    let low : due_place due < PLACES = place-low due stand.0 in
+    let taken : at_place x (due_place due) ≡ time * INSTANT + due_place due =
+    subst (λ (n : ℕ). at_place x n ≡ time * INSTANT + n) (sym stand.1) first.taken in
+    let bound : (other : Due) → IsDue other → time * INSTANT + due_place due ≤ at_place x (due_place other) =
     λ other there.
-    let few : due_place other < 1216 = place-low other there in
-    subst (λ (n : ℕ). time * 2048 + n ≤ at_place x (due_place other)) (sym stand.1)
+    let few : due_place other < PLACES = place-low other there in
+    subst (λ (n : ℕ). time * INSTANT + n ≤ at_place x (due_place other)) (sym stand.1)
     (first.bound (due_place other) (omega arith)) in
     let least : (other : Due) (t : ℕ) → comes_at end a other ≡ Some t → IsBefore t other time due → ⊥ =
     λ other t comes before.
     let there : IsDue other = (h.all other).there t comes in
-    let few : due_place other < 1216 = place-low other there in
-    let stood : at_place x (due_place other) ≡ t * 2048 + due_place other = (h.all other).at there ∙ ap (due_number (due_place other)) comes in
-    let more : time * 2048 + due_place due ≤ at_place x (due_place other) = bound other there in
+    let few : due_place other < PLACES = place-low other there in
+    let stood : at_place x (due_place other) ≡ t * INSTANT + due_place other = (h.all other).at there ∙ ap (due_number (due_place other)) comes in
+    let more : time * INSTANT + due_place due ≤ at_place x (due_place other) = bound other there in
     elim before [ inl early ↦ omega arith | inr same ↦ omega (arith, same.0, same.1) ] in
     record { comes = number-is (due_place due) time (comes_at end a due) low (sym ((h.all due).at stand.0) ∙ taken); first = least }
 
@@ -423,8 +426,8 @@ none-next end a x none h due = elim (some_or_none (comes_at end a due)) [
   | inl nothing ↦ nothing
   | inr (t, comes) ↦
       let there : IsDue due = (h.all due).there t comes in
-      let few : due_place due < 1216 = place-low due there in
-      let stood : at_place x (due_place due) ≡ t * 2048 + due_place due = (h.all due).at there ∙ ap (due_number (due_place due)) comes in
+      let few : due_place due < PLACES = place-low due there in
+      let stood : at_place x (due_place due) ≡ t * INSTANT + due_place due = (h.all due).at there ∙ ap (due_number (due_place due)) comes in
       let at : at_place x (due_place due) ≡ never_due = none (due_place due) (omega arith) in
       absurd (omega (arith, few, stood, at))
 ]
@@ -503,27 +506,27 @@ nothing-read {B} v count k processor_state none = elim (some_or_none (slice_get 
 ]
 
 -- no place before those of looks, and none after the last of this many, is due at the opening
-look-past : (count : ℕ) (time : Option ℕ) (place : ℕ) → place < 1152 → look_of count time place ≡ None
-look-past count time place low = ap (λ (b : Bool). if b && nat_lt place (1152 + count) then time else None) (lt-leb 1152 place low)
+look-past : (count : ℕ) (time : Option ℕ) (place : ℕ) → place < FIRST_LOOK → look_of count time place ≡ None
+look-past count time place low = ap (λ (b : Bool). if b && nat_lt place (FIRST_LOOK + count) then time else None) (lt-leb FIRST_LOOK place low)
 
-look-after : (count : ℕ) (time : Option ℕ) (q : ℕ) → count ≤ q → look_of count time (1152 + q) ≡ None
+look-after : (count : ℕ) (time : Option ℕ) (q : ℕ) → count ≤ q → look_of count time (FIRST_LOOK + q) ≡ None
 look-after count time q high =
-    ap (λ (b : Bool). if b && nat_lt (1152 + q) (1152 + count) then time else None) (le-leb 1152 (1152 + q) (omega arith))
-    ∙ ap (λ (b : Bool). if b then time else None) (le-ltb (1152 + q) (1152 + count) (omega arith))
+    ap (λ (b : Bool). if b && nat_lt (FIRST_LOOK + q) (FIRST_LOOK + count) then time else None) (le-leb FIRST_LOOK (FIRST_LOOK + q) (omega arith))
+    ∙ ap (λ (b : Bool). if b then time else None) (le-ltb (FIRST_LOOK + q) (FIRST_LOOK + count) (omega arith))
 
 -- each of this many processors looks at that time at the opening
-look-within : (count : ℕ) (time : Option ℕ) (q : ℕ) → q < count → look_of count time (1152 + q) ≡ time
+look-within : (count : ℕ) (time : Option ℕ) (q : ℕ) → q < count → look_of count time (FIRST_LOOK + q) ≡ time
 look-within count time q low =
-    ap (λ (b : Bool). if b && nat_lt (1152 + q) (1152 + count) then time else None) (le-leb 1152 (1152 + q) (omega arith))
-    ∙ ap (λ (b : Bool). if b then time else None) (lt-ltb (1152 + q) (1152 + count) (omega arith))
+    ap (λ (b : Bool). if b && nat_lt (FIRST_LOOK + q) (FIRST_LOOK + count) then time else None) (le-leb FIRST_LOOK (FIRST_LOOK + q) (omega arith))
+    ∙ ap (λ (b : Bool). if b then time else None) (lt-ltb (FIRST_LOOK + q) (FIRST_LOOK + count) (omega arith))
 
 -- what does not come at the opening
 quiet : (end count : ℕ) (time : Option ℕ) (a : Accounts) (x : List ℕ) (due : Due)
-    → AreLooks count time x → (IsDue due → due_place due < 1152) → comes_at end a due ≡ None
+    → AreLooks count time x → (IsDue due → due_place due < FIRST_LOOK) → comes_at end a due ≡ None
     → AgreesAt end a x due
 quiet end count time a x due looks low none = record {
   at = λ there.
-      let few : due_place due < 1152 = low there in
+      let few : due_place due < FIRST_LOOK = low there in
       looks (due_place due) (omega arith) ∙ ap (due_number (due_place due)) (look-past count time (due_place due) few)
       ∙ ap (due_number (due_place due)) (sym none);
   there = λ t some. absurd (none-some t (sym none ∙ some));
@@ -531,12 +534,12 @@ quiet end count time a x due looks low none = record {
 
 -- at the opening, where the event queue has the first looks, it agrees
 pub opening-agrees : (end processors balance : ℕ) (x : List ℕ)
-    → processors ≤ 64 → AreLooks (min processors 64) (option_and_then (until end) (first_look processors balance)) x
+    → processors ≤ PROCESSORS → AreLooks (min processors PROCESSORS) (option_and_then (until end) (first_look processors balance)) x
     → QueueAgrees end (opening_accounts processors balance) x
 opening-agrees end processors balance x few looks =
     let processor_state : ProcessorState = processor_at_rest (first_look processors balance) in
     let time = option_and_then (until end) (first_look processors balance) in
-    let count = min processors 64 in
+    let count = min processors PROCESSORS in
     let all : count ≡ processors = omega arith in
     let a : Accounts = opening_accounts processors balance in
     let look : (q : ℕ) → AgreesAt end a x (Look q) = λ q. elim (cases_lt q processors) [
@@ -544,8 +547,8 @@ opening-agrees end processors balance x few looks =
           let comes : comes_at end a (Look q) ≡ time = look-of end q a processor_state (there-replicate processors q processor_state low) in
           record {
             at = λ there.
-                looks (1152 + q) (omega arith) ∙ ap (due_number (1152 + q)) (look-within count time q (omega arith))
-                ∙ ap (due_number (1152 + q)) (sym comes);
+                looks (FIRST_LOOK + q) (omega arith) ∙ ap (due_number (FIRST_LOOK + q)) (look-within count time q (omega arith))
+                ∙ ap (due_number (FIRST_LOOK + q)) (sym comes);
             there = λ t some. omega arith;
           }
       | inr high ↦
@@ -554,14 +557,14 @@ opening-agrees end processors balance x few looks =
           (past-replicate processors q processor_state high) in
           record {
             at = λ there.
-                looks (1152 + q) (omega arith) ∙ ap (due_number (1152 + q)) (look-after count time q (omega arith))
-                ∙ ap (due_number (1152 + q)) (sym comes);
+                looks (FIRST_LOOK + q) (omega arith) ∙ ap (due_number (FIRST_LOOK + q)) (look-after count time q (omega arith))
+                ∙ ap (due_number (FIRST_LOOK + q)) (sym comes);
             there = λ t some. absurd (none-some t (sym comes ∙ some));
           }
     ] in
     let homes : HaveHomes a = λ q task l at runs.
     absurd (none-some task (ap (λ (m : ProcessorState). m.run) (at-replicate processors q processor_state l at).1 ∙ runs)) in
-    let rest : AgreesBut end 64 a x = record {
+    let rest : AgreesBut end PROCESSORS a x = record {
       ends = λ q other.
           quiet end count time a x (End q) looks (λ there. omega arith)
           (nothing-read (phase_ends_at end []) processors q processor_state refl);
@@ -574,8 +577,8 @@ opening-agrees end processors balance x few looks =
     } in
     record {
       all =
-          with_end end 64 a x rest (quiet end count time a x (End 64) looks (λ there. omega arith)
-          (nothing-read (phase_ends_at end []) processors 64 processor_state refl));
+          with_end end PROCESSORS a x rest (quiet end count time a x (End PROCESSORS) looks (λ there. omega arith)
+          (nothing-read (phase_ends_at end []) processors PROCESSORS processor_state refl));
       homes = homes;
     }
 
@@ -600,8 +603,8 @@ added-agreed task start progress r m s number asleep timer by_task by_processor 
 
 -- a roster at its opening
 pub opening-agreed : (processors balance end : ℕ) (r : Roster)
-    → processors ≤ 64 → accounts_of r ≡ opening_accounts processors balance → r.periods.end ≡ end
-    → AreLooks (min processors 64) (option_and_then (until end) (first_look processors balance)) r.event_queue
+    → processors ≤ PROCESSORS → accounts_of r ≡ opening_accounts processors balance → r.periods.end ≡ end
+    → AreLooks (min processors PROCESSORS) (option_and_then (until end) (first_look processors balance)) r.event_queue
     → IsAgreed r
 opening-agreed processors balance end r few is periods looks =
     subst (λ (n : ℕ). QueueAgrees n (accounts_of r) r.event_queue) (sym periods)

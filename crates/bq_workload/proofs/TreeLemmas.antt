@@ -4,6 +4,8 @@ use Rattle.std.proofs.lemmas.Grind.{get_or_default_zero, get_or-set_at}
 use Rattle.std.proofs.lemmas.List.{get_or-replicate, get_or-set_other}
 use Rattle.std.proofs.lemmas.Bool.{cases_lt, cases_eq}
 use Rattle.bq_workload.specs.Minima.{IsLess, HasMinima, HasOtherMinima, AreLeavesPlaced, HasSpareLeaves, IsFirstDue, AreNever, never_due}
+use Rattle.bq_workload.specs.declared.due.TheConstants.{PLACES}
+use Rattle.bq_workload.specs.declared.event_queue.TheConstants.{INSTANT, LEAVES, NODES}
 
 -- a number is one of the two below its half
 pub below-half : (k : ℕ) → (k ≡ 2 * (k / 2)) ⊎ (k ≡ 2 * (k / 2) + 1)
@@ -17,7 +19,7 @@ less-below xs h k less (inr odd) =
     let same : get_or xs k 0 ≡ get_or xs (2 * h + 1) 0 = ap (λ i. get_or xs i 0) odd in omega (arith, less, same)
 
 -- the root is no more than any number
-pub root-bounds : (n k : ℕ) (xs : List ℕ) → HasMinima xs → k ≤ n → 1 ≤ k → k < 4096 → get_or xs 1 0 ≤ get_or xs k 0
+pub root-bounds : (n k : ℕ) (xs : List ℕ) → HasMinima xs → k ≤ n → 1 ≤ k → k < NODES → get_or xs 1 0 ≤ get_or xs k 0
 root-bounds zero k xs m h low high = absurd (omega arith)
 root-bounds (suc n) k xs m h low high =
     elim (cases_lt k 2) [
@@ -34,32 +36,32 @@ pub min-is : (a b : ℕ) → (min a b ≡ a) ⊎ (min a b ≡ b)
 min-is a b = elim (cases_lt a b) [ inl less ↦ inl (omega arith) | inr more ↦ inr (omega arith) ]
 
 -- each number stands at some leaf
-pub leaf-of : (n k : ℕ) (xs : List ℕ) → HasMinima xs → 4096 ≤ n + k → 1 ≤ k → k < 4096
-    → (place : ℕ) × (place < 2048) × (get_or xs (2048 + place) 0 ≡ get_or xs k 0)
+pub leaf-of : (n k : ℕ) (xs : List ℕ) → HasMinima xs → NODES ≤ n + k → 1 ≤ k → k < NODES
+    → (place : ℕ) × (place < LEAVES) × (get_or xs (LEAVES + place) 0 ≡ get_or xs k 0)
 leaf-of zero k xs m h low high = absurd (omega arith)
 leaf-of (suc n) k xs m h low high =
-    elim (cases_lt k 2048) [
+    elim (cases_lt k LEAVES) [
       | inl inner ↦
           let less : get_or xs k 0 ≡ min (get_or xs (2 * k) 0) (get_or xs (2 * k + 1) 0) = m k low inner in
           elim (min-is (get_or xs (2 * k) 0) (get_or xs (2 * k + 1) 0)) [
             | inl left ↦
-                let below : (place : ℕ) × (place < 2048) × (get_or xs (2048 + place) 0 ≡ get_or xs (2 * k) 0) =
+                let below : (place : ℕ) × (place < LEAVES) × (get_or xs (LEAVES + place) 0 ≡ get_or xs (2 * k) 0) =
                 leaf-of n (2 * k) xs m (omega arith) (omega arith) (omega arith) in
                 (below.0, below.1, below.2 ∙ sym (less ∙ left))
             | inr right ↦
-                let below : (place : ℕ) × (place < 2048) × (get_or xs (2048 + place) 0 ≡ get_or xs (2 * k + 1) 0) =
+                let below : (place : ℕ) × (place < LEAVES) × (get_or xs (LEAVES + place) 0 ≡ get_or xs (2 * k + 1) 0) =
                 leaf-of n (2 * k + 1) xs m (omega arith) (omega arith) (omega arith) in
                 (below.0, below.1, below.2 ∙ sym (less ∙ right))
           ]
-      | inr leaf ↦ (k - 2048, omega arith, ap (λ i. get_or xs i 0) (let e : 2048 + (k - 2048) ≡ k = omega arith in e))
+      | inr leaf ↦ (k - LEAVES, omega arith, ap (λ i. get_or xs i 0) (let e : LEAVES + (k - LEAVES) ≡ k = omega arith in e))
     ]
 
 -- where all numbers are never due each of them is
-pub all-never : (xs : List ℕ) → xs ≡ replicate 4096 never_due → (k : ℕ) → k < 4096 → get_or xs k 0 ≡ never_due
-all-never xs is k h = rw is (get_or-replicate 4096 k never_due 0 h)
+pub all-never : (xs : List ℕ) → xs ≡ replicate NODES never_due → (k : ℕ) → k < NODES → get_or xs k 0 ≡ never_due
+all-never xs is k h = rw is (get_or-replicate NODES k never_due 0 h)
 
 -- where all numbers are never due each is less than or equal to the two below it
-pub never-minima : (xs : List ℕ) → xs ≡ replicate 4096 never_due → HasMinima xs
+pub never-minima : (xs : List ℕ) → xs ≡ replicate NODES never_due → HasMinima xs
 never-minima xs is k low high =
     let here : get_or xs k 0 ≡ never_due = all-never xs is k (omega arith) in
     let left : get_or xs (2 * k) 0 ≡ never_due = all-never xs is (2 * k) (omega arith) in
@@ -67,42 +69,42 @@ never-minima xs is k low high =
     omega (arith, here, left, right)
 
 -- where all numbers are never due no place is due
-pub never-places : (xs : List ℕ) → xs ≡ replicate 4096 never_due → AreNever xs
-never-places xs is place h = all-never xs is (2048 + place) (omega arith)
+pub never-places : (xs : List ℕ) → xs ≡ replicate NODES never_due → AreNever xs
+never-places xs is place h = all-never xs is (LEAVES + place) (omega arith)
 
 -- where the root is never due no place is
 pub nothing-due : (xs : List ℕ) → HasMinima xs → AreLeavesPlaced xs → get_or xs 1 0 ≡ never_due → AreNever xs
 nothing-due xs m places root place h =
-    let up : get_or xs 1 0 ≤ get_or xs (2048 + place) 0 = root-bounds 4096 (2048 + place) xs m (omega arith) (omega arith) (omega arith) in
+    let up : get_or xs 1 0 ≤ get_or xs (LEAVES + place) 0 = root-bounds NODES (LEAVES + place) xs m (omega arith) (omega arith) (omega arith) in
     elim (places place h) [ inl none ↦ none | inr (stand, small) ↦ absurd (omega (arith, up, root, small)) ]
 
 -- where the root is due, it has the time and the place of what is due first
 pub first-due : (xs : List ℕ) → HasMinima xs → AreLeavesPlaced xs → get_or xs 1 0 ≢ never_due
-    → IsFirstDue xs (get_or xs 1 0 / 2048) (get_or xs 1 0 % 2048)
+    → IsFirstDue xs (get_or xs 1 0 / LEAVES) (get_or xs 1 0 % LEAVES)
 first-due xs m places due =
-    let leaf : (place : ℕ) × (place < 2048) × (get_or xs (2048 + place) 0 ≡ get_or xs 1 0) =
-    leaf-of 4096 1 xs m (omega arith) (omega arith) (omega arith) in
-    let stand : get_or xs 1 0 % 2048 ≡ leaf.0 = elim (places leaf.0 leaf.1) [
+    let leaf : (place : ℕ) × (place < LEAVES) × (get_or xs (LEAVES + place) 0 ≡ get_or xs 1 0) =
+    leaf-of NODES 1 xs m (omega arith) (omega arith) (omega arith) in
+    let stand : get_or xs 1 0 % LEAVES ≡ leaf.0 = elim (places leaf.0 leaf.1) [
       | inl none ↦ absurd (due (sym leaf.2 ∙ none))
-      | inr (here, small) ↦ sym (ap (λ n. n % 2048) leaf.2) ∙ here
+      | inr (here, small) ↦ sym (ap (λ n. n % LEAVES) leaf.2) ∙ here
     ] in
     record {
       within = omega arith;
       taken =
-          let e : get_or xs (2048 + get_or xs 1 0 % 2048) 0 ≡ get_or xs (2048 + leaf.0) 0 =
-          ap (λ i. get_or xs (2048 + i) 0) stand in
+          let e : get_or xs (LEAVES + get_or xs 1 0 % LEAVES) 0 ≡ get_or xs (LEAVES + leaf.0) 0 =
+          ap (λ i. get_or xs (LEAVES + i) 0) stand in
           omega (arith, e, leaf.2);
       bound = λ other h.
-          let up : get_or xs 1 0 ≤ get_or xs (2048 + other) 0 =
-          root-bounds 4096 (2048 + other) xs m (omega arith) (omega arith) (omega arith) in
+          let up : get_or xs 1 0 ≤ get_or xs (LEAVES + other) 0 =
+          root-bounds NODES (LEAVES + other) xs m (omega arith) (omega arith) (omega arith) in
           omega (arith, up);
     }
 
 -- what is due first has a place, and no spare leaf
-pub first-place : (xs : List ℕ) (time place : ℕ) → AreLeavesPlaced xs → HasSpareLeaves xs → time * 2048 + place ≢ never_due
+pub first-place : (xs : List ℕ) (time place : ℕ) → AreLeavesPlaced xs → HasSpareLeaves xs → time * INSTANT + place ≢ never_due
     → IsFirstDue xs time place
-    → place < 1216
-first-place xs time place places spare due first = elim (cases_lt place 1216) [
+    → place < PLACES
+first-place xs time place places spare due first = elim (cases_lt place PLACES) [
   | inl low ↦ low
   | inr high ↦ absurd (due (sym first.taken ∙ spare place high first.within))
 ]
@@ -112,7 +114,7 @@ pub same-number : (xs : List ℕ) (n : ℕ) → 1 < length xs → n ≡ get_or x
 same-number xs n h is = is ∙ get_or_default_zero xs 1 n h
 
 -- where a leaf gets another number, only the node above it may have another than the less of its two
-pub changed-leaf : (xs : List ℕ) (leaf n : ℕ) → 2048 ≤ leaf → HasMinima xs → HasOtherMinima (leaf / 2) (set xs leaf n)
+pub changed-leaf : (xs : List ℕ) (leaf n : ℕ) → LEAVES ≤ leaf → HasMinima xs → HasOtherMinima (leaf / 2) (set xs leaf n)
 changed-leaf xs leaf n high m k low small but =
     let here : get_or (set xs leaf n) k 0 ≡ get_or xs k 0 = get_or-set_other xs leaf k n 0 (omega arith) in
     let left : get_or (set xs leaf n) (2 * k) 0 ≡ get_or xs (2 * k) 0 = get_or-set_other xs leaf (2 * k) n 0 (omega arith) in
