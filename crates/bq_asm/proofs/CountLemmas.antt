@@ -7,6 +7,7 @@ use Rattle.bq_asm.specs.declared.operand.Operand.{Operand}
 use Rattle.bq_asm.specs.declared.operand_kind.OperandKind.{OperandKind}
 use Rattle.bq_asm.specs.Operands.{operand_of, each_operand, with_next, lesser}
 
+-- a word that is wrong is the least cause, after any cause and after any operand:
 lesser_word : (c : AssemblyCause) → lesser c cause.Word ≡ cause.Word
 lesser_word cause.Word = refl
 lesser_word cause.Number = refl

@@ -82,9 +82,11 @@ module _ (text : List ℕ) (draft : Draft) (yielded : List (Bor (List ℕ))) (nu
     (r : Result (Vec Insn) AsmFault) (all : map (λ l. l.now) yielded ≡ lines text)
     (count : number ≡ length yielded) (described : IsDraftOf (parsed_so_far yielded) draft)
     (clean : (k : ℕ) → k ≤ number → fault_at (lines_of text) k ≡ None) where
+  -- the lines so far are all lines of the text
   whole : parsed_so_far yielded ≡ lines_of text
   whole = sym (parsed_by_bytes yielded) ∙ ap (map parsed_line) all
 
+  -- the draft is that of all lines, which have no fault and take at most 4096 slots:
   described_all : IsDraftOf (lines_of text) draft
   described_all = subst (λ ls. IsDraftOf ls draft) whole described
 
