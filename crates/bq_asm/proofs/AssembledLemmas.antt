@@ -31,7 +31,7 @@ abbrev pub IsCleanAfter : List Line → List Line → Type 0
 IsCleanAfter before [] = Unit {0}
 IsCleanAfter before (line ∷ lines) = (cause_at_line before line ≡ None) × IsCleanAfter (before ++ line ∷ []) lines
 
--- the later of some lines without a fault have no fault after the earlier ones
+-- of lines without a fault, the later ones have no fault after the earlier ones
 clean_from : (before lines : List Line) → IsClean (before ++ lines) → IsCleanAfter before lines
 clean_from before [] h = tt
 clean_from before (line ∷ lines) h =

@@ -1,4 +1,4 @@
--- What one more line adds to a draft.
+-- What one more line adds to a draft: its label, slots, instruction and jump, and why it may be refused.
 use Rattle.std.proofs.Common.{◌≡◌, ℕ, ◌+◌, List, [], ◌∷◌, ◌++◌, length, map, refl, sym, ap, ◌∙◌, Bool, true, false, Some, None, is_some, arith, append_assoc, append-nil, add_assoc, zero-add, length-append, take, drop, get_or, take_all}
 use Rattle.std.proofs.lemmas.List.{map-append}
 use Rattle.std.specs.Prelude.{Option, if◌then◌else◌, nat_le, ◌≤◌, ◌<◌, ◌-◌, Result, Ok, Err, ℤ, pos}

@@ -1,4 +1,4 @@
--- One line of a text after others, and the first fault.
+-- The lines of a text are taken one after another, and the first fault is the fault of the text.
 use Rattle.std.proofs.Common.{◌≡◌, ℕ, zero, suc, ◌+◌, ◌<◌, ◌≤◌, List, [], ◌∷◌, length, take, get_or, map, refl, sym, ap, ◌∙◌, None, arith, subst, inl, inr, ⊎_elim}
 use Rattle.std.specs.Prelude.{option_and_then, Result, Ok, Err, IfOk, IfErr}
 use Rattle.std.specs.Global.{Vec}

@@ -82,7 +82,7 @@ of_kinds (insn.Load size true d s off) = refl
 of_kinds (insn.Load size false d s off) = refl
 of_kinds i = refl
 
--- the number of a register is at most 10
+-- a register's number that passes the test is at most 10
 in_range : (r : ℕ) → is_register r ≡ true → r ≤ 10
 in_range r h = leb-true r 10 h
 

@@ -1,4 +1,4 @@
--- The lines and the words of a listing.
+-- The lines and the words of a listing are read again, so a listing assembles to its program.
 use Rattle.std.proofs.Common.{◌≡◌, ℕ, zero, suc, ◌+◌, ◌-◌, ◌^◌, ◌<◌, ◌≤◌, List, [], ◌∷◌, ◌++◌, length, take, map, get_or, refl, sym, ap, ◌∙◌, Bool, true, false, cond, arith, append_assoc, length-append, subst}
 use Rattle.std.specs.Prelude.{ℤ, pos, negsuc, FitsSigned, not, ◌&&◌, ◌||◌, ◌==◌, codes, slice_index, nat_le}
 use Rattle.std.specs.Int.{w16, w32}

@@ -24,7 +24,7 @@ pub source_register_again : (r : ℕ) (d : Option ℤ) → r ≤ 10
     → operand_of kind.Source (operand_text (operand.Register r)) d ≡ Ok (operand.Register r)
 source_register_again r d h = ap (λ o. source_place o (operand_text (operand.Register r))) (register_of-decimal r h)
 
--- the text of a number of 32 bits with a sign is read as that number
+-- a number of 32 bits, with a minus where it is negative, is read in a number's place as that number
 number_is : (z : ℤ) → FitsSigned w32 z
     → number_place (option_map (λ z. operand.Number z) (imm_of (signed_decimal z))) (signed_decimal z) ≡ Ok (operand.Number z)
 number_is z h = ap (λ o. number_place (option_map (λ z. operand.Number z) o) (signed_decimal z)) (imm_of-signed z h)

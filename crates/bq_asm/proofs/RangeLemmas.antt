@@ -19,7 +19,7 @@ below_limit limit (Some n) = by (nat_lt n limit) refl
     by true e = grind (arith, nat_tests, e)
     by false e = tt
 
--- a number within the bounds of 32 or 16 bits, not below 0 or negative, fits them with a sign, by cases:
+-- numbers from 0 on and negative ones, within the bounds of 32 or 16 bits with a sign, fit these bits, by cases:
 positive_fits : (n : ℕ) → n < 2 ^ 31 → FitsSigned w32 (pos n)
 positive_fits n h = omega (arith, ints)
 
@@ -32,7 +32,7 @@ near_positive_fits n h = omega (arith, ints)
 near_negative_fits : (n : ℕ) → n < 2 ^ 15 + 1 → FitsSigned w16 (negative n)
 near_negative_fits n h = omega (arith, ints)
 
--- what a function gives each number that has some property, it gives an optional one
+-- what a function gives of each number, it gives of a number that may be there
 module _ (P : ℕ → Type 0) (Q : ℤ → Type 0) (f : ℕ → ℤ) (h : (n : ℕ) → P n → Q (f n)) where
   mapped : (o : Option ℕ) → IfSome o P → IfSome (option_map f o) Q
   mapped None k = tt

@@ -91,7 +91,7 @@ made_shape m r i h = let from = made_from m r i h in shaped_by m from.0 i from.2
 abbrev pub read : Mnemonic → List (List ℕ) → Option ℤ → Result Insn AssemblyCause
 read m operands d = made m (each_operand (kind_list (kinds_of m)) operands d)
 
--- the places where no distance stands
+-- whether no distance stands in an operand's place
 is_steady : OperandKind → Bool
 is_steady kind.Near = false
 is_steady kind.Far = false
