@@ -31,6 +31,7 @@ abbrev pub IsCleanAfter : List Line → List Line → Type 0
 IsCleanAfter before [] = Unit {0}
 IsCleanAfter before (line ∷ lines) = (cause_at_line before line ≡ None) × IsCleanAfter (before ++ line ∷ []) lines
 
+-- of lines without a fault, the later ones have no fault after the earlier ones
 clean_from : (before lines : List Line) → IsClean (before ++ lines) → IsCleanAfter before lines
 clean_from before [] h = tt
 clean_from before (line ∷ lines) h =
@@ -47,6 +48,7 @@ clean_from before (line ∷ lines) h =
 pub clean_after : (lines : List Line) → IsClean lines → IsCleanAfter [] lines
 clean_after lines h = clean_from [] lines h
 
+-- a label without a cause is a valid name, and was not set before
 label_is : (before : List (List ℕ)) (name : List ℕ) → cause_of_label before name ≡ None
     → (is_label name ≡ true) × (list_any (bytes_eq name) before ≡ false)
 label_is before name h = by (is_label name) (list_any (bytes_eq name) before) h
@@ -64,6 +66,7 @@ labels_in-more before line =
     ∙ ap (λ ps. places_from 0 before ++ ps) (append-nil (label_at (0 + slots_in before) line) ∙ ap (λ n. label_at n line) (omega arith)))
     ∙ map-append (λ e. e.0) (places_from 0 before) (label_at (slots_in before) line)
 
+-- lines that have no fault after others set labels that are names and were not set before
 new_labels : (before lines : List Line) (slot : ℕ) → IsCleanAfter before lines
     → AreNewLabels (labels_in before) (keys_of (places_from slot lines))
 new_labels before [] slot h = tt
@@ -106,9 +109,11 @@ assembles_count places slot (Instruction first operands ∷ lines) (i ∷ insns)
     let sum = slot_count-cons i insns in
     omega (arith, rest, here, sum)
 
+-- the distance between two slots of at most 4096 fits 16 bits with a sign
 near_fits : (at from : ℕ) → at ≤ 4096 → from ≤ 4096 → FitsSigned w16 (pos at -ℤ pos from)
 near_fits at from h k = omega (arith, ints)
 
+-- where the slot of each label is within a limit, so is the slot that is found for a name
 lookup_near : (limit : ℕ) (name : List ℕ) (places : List (List ℕ × ℕ))
     → AllByRecursion (λ p. p.1 ≤ limit) places → IfSome (lookup (bytes_eq name) places) (λ at. at ≤ limit)
 lookup_near limit name [] h = tt
@@ -151,6 +156,7 @@ assembles_fine places slot (Instruction first operands ∷ lines) (i ∷ insns) 
     let rest = assembles_fine places (slot + slots_of i) lines insns near (omega (arith, sum)) h.1 in
     record { in_range = ap (λ b. b && list_all is_insn insns) fine.in_range ∙ rest.in_range; fit = (fine.fits, rest.fit) }
 
+-- instructions in range that take 1 to 4096 slots are well formed
 well_formed : (insns : List Insn) → list_all is_insn insns ≡ true → 1 ≤ slot_count insns → slot_count insns ≤ 4096
     → is_well_formed insns ≡ true
 well_formed insns all some few =
@@ -180,6 +186,7 @@ assembles_from text insns clean some few assembles =
       few = omega (arith, count, few);
     }
 
+-- an instruction without a cause ends within the 4096 slots
 insn_within : (slots : ℕ) (read : Result Insn AssemblyCause) → cause_of_insn slots read ≡ None → slots + slots_read read ≤ 4096
 insn_within slots (Err c) h = absurd (let no : Some c ≡ None = h in cc)
 insn_within slots (Ok i) h = by (nat_le (slots + slots_of i) 4096) refl h

@@ -14,10 +14,12 @@ use Rattle.bq_asm.specs.Faults.{slots_in, labels_in, cause_of_insn, cause_at_lin
 use Rattle.bq_asm.specs.Jumps.{Awaited, drafts_of, jumps_from, with_jumps}
 use Rattle.bq_asm.proofs.PassLemmas.{IsReadable, IsFirstMissing, Passes, readable_lines_pass}
 
+-- an instruction without a cause was read
 read_from_cause : (slots : ℕ) (read : Result Insn AssemblyCause) → cause_of_insn slots read ≡ None → (i : Insn) × (read ≡ Ok i)
 read_from_cause slots (Err c) h = absurd (let no : Some c ≡ None = h in cc)
 read_from_cause slots (Ok i) h = (i, refl)
 
+-- a line without a cause says no instruction, or one that is read
 readable : (before : List Line) (line : Line) → cause_at_line before line ≡ None → IsReadable line
 readable before Blank h = tt
 readable before (Label name) h = tt

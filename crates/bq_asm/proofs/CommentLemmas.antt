@@ -1,4 +1,4 @@
--- What stands before the first byte of a kind, as a comment's beginning.
+-- The part of a text before its first byte that passes a test, such as the beginning of a comment.
 use Rattle.std.proofs.Common.{◌≡◌, ℕ, List, length, take, refl, sym, ap, true, false, cond, arith, take_all}
 use Rattle.std.specs.Prelude.{position, nat_lt, Bool, Some, None, ◌≤◌}
 use Rattle.std.specs.List.{position_or_len, before_first}

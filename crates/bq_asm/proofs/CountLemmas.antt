@@ -1,4 +1,4 @@
--- A wrong count of operands.
+-- Operands that are more or fewer than their places are refused for a word.
 use Rattle.std.proofs.Common.{◌≡◌, ℕ, suc, List, [], ◌∷◌, length, refl, ap, ◌∙◌}
 use Rattle.std.specs.Prelude.{Option, Result, Ok, Err, ℤ}
 use Rattle.bq_asm.specs.declared.fault.AssemblyCause.{AssemblyCause}
@@ -7,6 +7,7 @@ use Rattle.bq_asm.specs.declared.operand.Operand.{Operand}
 use Rattle.bq_asm.specs.declared.operand_kind.OperandKind.{OperandKind}
 use Rattle.bq_asm.specs.Operands.{operand_of, each_operand, with_next, lesser}
 
+-- the cause Word is the least, after any cause and after any operand:
 lesser_word : (c : AssemblyCause) → lesser c cause.Word ≡ cause.Word
 lesser_word cause.Word = refl
 lesser_word cause.Number = refl

@@ -18,6 +18,7 @@ use Rattle.bq_asm.specs.Text.{signed_text}
 abbrev pub is_digit : ℕ → Bool
 is_digit b = nat_le 48 b && nat_le b 57
 
+-- 48 and a number below 10 is the byte of a digit
 digit_is : (n : ℕ) → n < 10 → is_digit (48 + n) ≡ true
 digit_is n h = and_from (nat_le 48 (48 + n)) (nat_le (48 + n) 57) (le-leb 48 (48 + n) (omega arith)) (le-leb (48 + n) 57 (omega arith))
 
@@ -82,6 +83,7 @@ value_of-decimal n h =
     ap (λ b. if b then number_in_base 16 (drop 2 (decimal n)) else number_in_base 10 (decimal n)) (no_prefix (decimal n) (decimal_digits n h))
     ∙ number_of-decimal n h
 
+-- a text of digits does not begin with a byte before `0`
 first_no_sign : (bs : List ℕ) (s : ℕ) → 0 < length bs → list_all is_digit bs ≡ true → s < 48 → starts_with nat_eq bs (s ∷ []) ≡ false
 first_no_sign [] s some h lt = absurd (omega arith)
 first_no_sign (b ∷ bs) s some h lt = no_sign b bs s (and_parts (is_digit b) (list_all is_digit bs) h).0 lt

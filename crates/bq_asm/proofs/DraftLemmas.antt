@@ -1,4 +1,4 @@
--- What one more line adds to a draft.
+-- What one more line adds to a draft: its label, slots, instruction and jump, and why it may be refused.
 use Rattle.std.proofs.Common.{◌≡◌, ℕ, ◌+◌, List, [], ◌∷◌, ◌++◌, length, map, refl, sym, ap, ◌∙◌, Bool, true, false, Some, None, is_some, arith, append_assoc, append-nil, add_assoc, zero-add, length-append, take, drop, get_or, take_all}
 use Rattle.std.proofs.lemmas.List.{map-append}
 use Rattle.std.specs.Prelude.{Option, if◌then◌else◌, nat_le, ◌≤◌, ◌<◌, ◌-◌, Result, Ok, Err, ℤ, pos}
@@ -178,12 +178,14 @@ pub line_of-none : (words : List (Bor (List ℕ))) → length words < 1 → line
 line_of-none [] h = refl
 line_of-none (w ∷ ws) h = absurd (omega arith)
 
+-- a first word has at most three operands
 few_kinds : (k : Kinds) → length (kind_list k) ≤ 3
 few_kinds kinds.Zero = omega arith
 few_kinds (kinds.One a) = omega arith
 few_kinds (kinds.Two a b) = omega arith
 few_kinds (kinds.Three a b c) = omega arith
 
+-- more than three operands are refused for a word, whatever the first word is
 many_operands : (m : Option Mnemonic) (operands : List (List ℕ)) (d : Option ℤ)
     → 3 < length operands → instruction_from m operands d ≡ Err Word
 many_operands None operands d h = refl

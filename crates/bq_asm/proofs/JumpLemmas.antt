@@ -1,4 +1,4 @@
--- Labels that are looked up, and jumps that are set.
+-- A label that is looked up is within the limit of all labels, and the jumps are set one after another.
 use Rattle.std.proofs.Common.{◌≡◌, ℕ, ◌≤◌, List, [], ◌∷◌, map, refl, sym, ap, ◌∙◌, Bool, true, false, Some, None, subst, arith, suc, ◌+◌, ◌-◌, ◌<◌, length, drop, drop-cons, get_or}
 use Rattle.std.specs.Prelude.{Option, if◌then◌else◌, IfSome, ℤ, pos, ◌-ℤ◌, option_map, slice_get, slice_set, unwrap_or}
 use Rattle.std.specs.Borrow.{Bor}

@@ -103,6 +103,7 @@ cause_none before (line ∷ lines) (suc k) d lt h =
     ap (λ ls. cause_at_line ls (get_or lines k d)) (sym (append_assoc before (line ∷ []) (take k lines)))
     ∙ cause_none (before ++ line ∷ []) lines k d (omega arith) h.1
 
+-- lines of which none has a fault after the lines before it have no fault
 clean_from_after : (lines : List Line) → IsCleanAfter [] lines → IsClean lines
 clean_from_after lines h = all_clean lines (length lines) refl each
   where
@@ -110,6 +111,7 @@ clean_from_after lines h = all_clean lines (length lines) refl each
     each zero le = refl
     each (suc k) le = fault_at-is lines k Blank (omega arith) ∙ cause_none [] lines k Blank (omega arith) h
 
+-- the lines of a text that stands for instructions have no fault by themselves
 assembled_clean : (text : List ℕ) (insns : List Insn) → Assembles text insns → IsClean (lines_of text)
 assembled_clean text insns h =
     let few = h.few in
@@ -136,6 +138,7 @@ no_label_missing places slot first operands i h = by (lookup (bytes_eq (last_wor
     by None e k =
         ap (λ r. if awaits_label r && not (list_any (bytes_eq (last_word operands)) (keys_of places)) then Some LabelMissing else None) k
 
+-- where lines say instructions, no line jumps to a label that is missing
 none_missing : (places : List (List ℕ × ℕ)) (slot : ℕ) (lines : List Line) (insns : List Insn)
     → AssemblesFrom places slot lines insns → (k : ℕ) → missing_in (keys_of places) lines k ≡ None
 none_missing places slot [] insns h k = refl
@@ -148,9 +151,11 @@ none_missing places slot (Instruction first operands ∷ lines) (i ∷ insns) h 
 none_missing places slot (Instruction first operands ∷ lines) (i ∷ insns) h (suc k) =
     none_missing places (slot + slots_of i) lines insns h.1 k
 
+-- nothing is not something
 none_is_some : {A : Type 0} (o : Option A) (x : A) → o ≡ None → o ≡ Some x → ⊥
 none_is_some o x h k = let no : None ≡ Some x = sym h ∙ k in cc
 
+-- no line of a text that stands for instructions jumps to a label that is missing
 missing_none : (text : List ℕ) (insns : List Insn) → Assembles text insns → (k : ℕ) → missing_at (lines_of text) k ≡ None
 missing_none text insns h zero = refl
 missing_none text insns h (suc k) = none_missing (places_from 0 (lines_of text)) 0 (lines_of text) insns h.assembles k
@@ -200,6 +205,7 @@ one_fault text m n c d h k =
 IsNoneBelow : (ℕ → Option AssemblyCause) → ℕ → Type 0
 IsNoneBelow f n = (k : ℕ) → k < n → f k ≡ None
 
+-- either no line below a number has a cause, or some line is the first that has one
 sought : (f : ℕ → Option AssemblyCause) (n : ℕ) → IsNoneBelow f n ⊎ ((line : ℕ) × (c : AssemblyCause) × IsFirstCause f line c)
 unfolding IsNoneBelow
 sought f zero = inl (λ k lt. absurd (omega arith))

@@ -1,4 +1,4 @@
--- One line of a text after others, and the first fault.
+-- The lines of a text are taken one after another, and the first fault is the fault of the text.
 use Rattle.std.proofs.Common.{◌≡◌, ℕ, zero, suc, ◌+◌, ◌<◌, ◌≤◌, List, [], ◌∷◌, length, take, get_or, map, refl, sym, ap, ◌∙◌, None, arith, subst, inl, inr, ⊎_elim}
 use Rattle.std.specs.Prelude.{option_and_then, Result, Ok, Err, IfOk, IfErr}
 use Rattle.std.specs.Global.{Vec}
@@ -82,9 +82,11 @@ module _ (text : List ℕ) (draft : Draft) (yielded : List (Bor (List ℕ))) (nu
     (r : Result (Vec Insn) AsmFault) (all : map (λ l. l.now) yielded ≡ lines text)
     (count : number ≡ length yielded) (described : IsDraftOf (parsed_so_far yielded) draft)
     (clean : (k : ℕ) → k ≤ number → fault_at (lines_of text) k ≡ None) where
+  -- the lines so far are all lines of the text
   whole : parsed_so_far yielded ≡ lines_of text
   whole = sym (parsed_by_bytes yielded) ∙ ap (map parsed_line) all
 
+  -- the draft is that of all lines, which have no fault and take at most 4096 slots:
   described_all : IsDraftOf (lines_of text) draft
   described_all = subst (λ ls. IsDraftOf ls draft) whole described
 

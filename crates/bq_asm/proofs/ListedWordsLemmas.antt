@@ -41,6 +41,7 @@ has_kind kind.Near (operand.Near z) = true
 has_kind kind.Far (operand.Far z) = true
 has_kind k o = false
 
+-- as many operands as places, each of them in a place where it may stand
 have_kinds : List OperandKind → List Operand → Bool
 have_kinds [] [] = true
 have_kinds (k ∷ ks) (o ∷ os) = has_kind k o && have_kinds ks os
@@ -59,6 +60,7 @@ again kind.Near (operand.Near z) d h g = near_again z d g
 again kind.Far (operand.Far z) d h g = far_again z d g
 again k o d h g = absurd (false≢true h)
 
+-- the texts of operands in their places are read as those operands
 each_again : (ks : List OperandKind) (os : List Operand) (d : Option ℤ)
     → have_kinds ks os ≡ true → AllByRecursion IsInRange os → each_operand ks (map operand_text os) d ≡ Ok os
 unfolding have_kinds
@@ -69,6 +71,7 @@ each_again (k ∷ ks) (o ∷ os) d h g =
     let parts = and_parts (has_kind k o) (have_kinds ks os) h in
     λ n. with_next (again k o d parts.0 g.0 n) (each_again ks os d parts.1 g.1 n)
 
+-- the operands of an instruction stand in the places that its first word has
 of_kinds : (i : Insn) → have_kinds (kind_list (kinds_of (mnemonic_of i))) (operands_of i) ≡ true
 unfolding has_kind have_kinds
 of_kinds (insn.Alu w o d (Imm n)) = refl
@@ -79,6 +82,7 @@ of_kinds (insn.Load size true d s off) = refl
 of_kinds (insn.Load size false d s off) = refl
 of_kinds i = refl
 
+-- a register's number that passes the test is at most 10
 in_range : (r : ℕ) → is_register r ≡ true → r ≤ 10
 in_range r h = leb-true r 10 h
 
@@ -87,6 +91,7 @@ record Two (d s : ℕ) : Type 0 where
   first : d ≤ 10
   second : s ≤ 10
 
+-- an instruction in range has registers up to 10, by cases:
 both : (d s : ℕ) → (is_register d && is_register s) ≡ true → Two d s
 both d s h = let parts = and_parts (is_register d) (is_register s) h in record { first = in_range d parts.0; second = in_range s parts.1 }
 
@@ -113,6 +118,7 @@ loaded Half false d s off h = both d s h
 loaded Word false d s off h = both d s h
 loaded Double false d s off h = both d s h
 
+-- a second operand in range is written as an operand in range
 source_good : (src : Source) → is_source src ≡ true → SourceFits src → IsInRange (source_operand src)
 source_good (Imm n) h k = k
 source_good (Reg r) h k = in_range r h

@@ -1,4 +1,4 @@
--- The lines and the words of a listing.
+-- The lines and the words of a listing are read again, so a listing assembles to its program.
 use Rattle.std.proofs.Common.{◌≡◌, ℕ, zero, suc, ◌+◌, ◌-◌, ◌^◌, ◌<◌, ◌≤◌, List, [], ◌∷◌, ◌++◌, length, take, map, get_or, refl, sym, ap, ◌∙◌, Bool, true, false, cond, arith, append_assoc, length-append, subst}
 use Rattle.std.specs.Prelude.{ℤ, pos, negsuc, FitsSigned, not, ◌&&◌, ◌||◌, ◌==◌, codes, slice_index, nat_le}
 use Rattle.std.specs.Int.{w16, w32}
@@ -51,9 +51,11 @@ is_inner b = not (b == 59) && (not (b == 10) && not (b == 13))
 abbrev is_plain : ℕ → Bool
 is_plain b = not (is_blank b) && is_inner b
 
+-- a byte of a word ends no line and begins no comment
 inner_from_plain : (b : ℕ) → is_plain b ≡ true → is_inner b ≡ true
 inner_from_plain b h = (and_parts (not (is_blank b)) (is_inner b) h).1
 
+-- digits, and so numbers in decimal, are bytes of words:
 digit_plain : (b : ℕ) → is_digit b ≡ true → is_plain b ≡ true
 digit_plain b h =
     let low : 48 ≤ b = leb-true 48 b (and_parts (nat_le 48 b) (nat_le b 57) h).0 in
@@ -64,6 +66,7 @@ digit_plain b h =
 decimal_plain : (n : ℕ) → n < 2 ^ 64 → list_all is_plain (decimal n) ≡ true
 decimal_plain n h = list_all-weaker is_digit is_plain digit_plain (decimal n) (decimal_digits n h)
 
+-- each part of a first word has only bytes of words, by cases:
 op_plain : (o : Operation) → list_all is_plain (op_name o) ≡ true
 op_plain o = elim o as (λ x. list_all is_plain (op_name x) ≡ true) [ op.Add ↦ refl | _ ↦ refl ]
 
@@ -91,6 +94,7 @@ bits_plain B16 = refl
 bits_plain B32 = refl
 bits_plain B64 = refl
 
+-- the names of widths and sizes in bits are not empty:
 width_some : (w : Width) → 0 < length (width_name w)
 width_some W32 = omega arith
 width_some W64 = omega arith
@@ -101,6 +105,7 @@ bits_some B16 = omega arith
 bits_some B32 = omega arith
 bits_some B64 = omega arith
 
+-- each first word has only bytes of words
 name_plain : (m : Mnemonic) → list_all is_plain (mnemonic_word m) ≡ true
 name_plain (name.Alu w o) = list_all-append is_plain (op_name o) (width_name w) (op_plain o) (width_plain w)
 name_plain (name.MovSx w b) = list_all-append is_plain (width_name w) (codes "_" ++ bits_name b) (width_plain w) (bits_plain b)
@@ -118,6 +123,7 @@ record IsWord (text : List ℕ) : Type 0 where
   some : 0 < length text
   plain : list_all is_plain text ≡ true
 
+-- a number in a listing is a word, without a sign and with one, by cases:
 decimal_word : (n : ℕ) → n < 2 ^ 64 → IsWord (decimal n)
 decimal_word n h = record { some = (decimal_is_IsNumeral n h).0.0; plain = decimal_plain n h }
 
@@ -132,6 +138,7 @@ signed_word (negsuc n) h = record { some = omega arith; plain = decimal_plain (s
 near_word : (z : ℤ) → FitsSigned w16 z → IsWord (signed_text z)
 near_word z h = signed_word z (omega (arith, ints, h))
 
+-- the text of a register, and of a place in memory, is a word, by cases:
 register_word : (r : ℕ) → r ≤ 10 → IsWord (operand_text (operand.Register r))
 register_word r h = record { some = omega arith; plain = decimal_plain r (omega arith) }
 
@@ -143,6 +150,7 @@ memory_word r z h k = record {
       (list_all-append is_plain (signed_text z) (codes "]") (near_word z k).plain refl);
 }
 
+-- the text of each operand in range is a word
 operand_word : (o : Operand) → IsInRange o → IsWord (operand_text o)
 operand_word (operand.Register r) h = register_word r h
 operand_word (operand.Number z) h = signed_decimal_word z h
@@ -151,19 +159,23 @@ operand_word (operand.Memory r z) h = memory_word r z h.0 h.1
 operand_word (operand.Near z) h = near_word z h
 operand_word (operand.Far z) h = signed_word z h
 
+-- no byte of a word is a blank
 no_blank : (w : List ℕ) → list_all is_plain w ≡ true → AllByRecursion (λ b. is_blank b ≡ false) w
 no_blank [] h = tt
 no_blank (b ∷ w) h =
     let parts = and_parts (is_plain b) (list_all is_plain w) h in
     (not-true (is_blank b) (and_parts (not (is_blank b)) (is_inner b) parts.0).0, no_blank w parts.1)
 
+-- a word and then a blank or the end give that word, and then the words of the rest
 first_word : (w rest : List ℕ) → IsWord w → EndsWord is_blank rest → words_between_blanks (w ++ rest) ≡ w ∷ words_between_blanks rest
 first_word w rest h end = words-word is_blank w rest h.some (All-from_recursion (λ b. is_blank b ≡ false) w (no_blank w h.plain)) end
 
+-- the text of the operands after the first begins with a blank or is empty
 after_ends : (os : List Operand) → EndsWord is_blank (after_first os)
 after_ends [] = tt
 after_ends (o ∷ os) = refl
 
+-- the words of operands are the texts of these operands, after the first one and from the first on:
 words_after : (os : List Operand) → AllByRecursion IsInRange os → words_between_blanks (after_first os) ≡ map operand_text os
 words_after [] h = refl
 words_after (o ∷ os) h =
@@ -179,10 +191,12 @@ words_operands (o ∷ os) h =
     ∙ first_word (operand_text o) (after_first os) (operand_word o h.0) (after_ends os)
     ∙ ap (λ ws. operand_text o ∷ ws) (words_after os h.1)
 
+-- the text of all operands begins with a blank or is empty
 operands_end : (os : List Operand) → EndsWord is_blank (operands_text os)
 operands_end [] = tt
 operands_end (o ∷ os) = refl
 
+-- no first word is empty
 name_some : (m : Mnemonic) → 0 < length (mnemonic_word m)
 name_some (name.Alu w o) = let sum = length-append (op_name o) (width_name w) in let two = width_some w in omega (arith, sum, two)
 name_some (name.MovSx w b) = omega arith
@@ -195,6 +209,7 @@ name_some (name.StoreReg size) = omega arith
 name_some (name.Branch w c) = let sum = length-append (cond_name c) (width_name w) in let two = width_some w in omega (arith, sum, two)
 name_some m = omega arith
 
+-- the words of an instruction's line are its first word and the texts of its operands
 words_of-body : (i : Insn) → AllByRecursion IsInRange (operands_of i)
     → words_between_blanks (line_body i) ≡ mnemonic_word (mnemonic_of i) ∷ map operand_text (operands_of i)
 words_of-body i h =
@@ -224,6 +239,7 @@ body_inner i h =
     list_all-append is_inner (mnemonic_word (mnemonic_of i)) (operands_text (operands_of i))
     (plain_inner (mnemonic_word (mnemonic_of i)) (name_plain (mnemonic_of i))) (operands_inner (operands_of i) h)
 
+-- no comment begins in a line of a listing, so that all of the line is read:
 no_comment : (bs : List ℕ) → list_all is_inner bs ≡ true → position_or_len is_comment bs ≡ length bs
 no_comment [] h = refl
 no_comment (b ∷ bs) h =
@@ -259,6 +275,7 @@ parsed_line-body i h =
     lone (insn.Call n) = refl
     lone insn.Exit = refl
 
+-- a line of a listing has no line feed and no carriage return, by cases:
 no_feed : (bs : List ℕ) → list_all is_inner bs ≡ true → AllByRecursion (λ b. (b == 10) ≡ false) bs
 no_feed [] h = tt
 no_feed (b ∷ bs) h =
@@ -291,9 +308,11 @@ lines-body body rest h =
     ap lines_of_parts (slice_split_at feed body 10 rest (All-from_recursion (λ b. (b == 10) ≡ false) body (no_feed body h)) refl)
     ∙ parts_more body (slice_split feed rest) more ∙ ap (λ b. b ∷ lines rest) kept
 
+-- what the line of an instruction in a listing says: its first word and the texts of its operands
 abbrev listed : Insn → Line
 listed i = Instruction (mnemonic_word (mnemonic_of i)) (map operand_text (operands_of i))
 
+-- the lines of a listing say one instruction after another
 lines_of-listing : (insns : List Insn) → list_all is_insn insns ≡ true → AllFit insns → lines_of (listing_text insns) ≡ map listed insns
 lines_of-listing [] h k = refl
 lines_of-listing (i ∷ insns) h k =
@@ -313,6 +332,7 @@ no_places : (slot : ℕ) (insns : List Insn) → places_from slot (map listed in
 no_places slot [] = refl
 no_places slot (i ∷ insns) = no_places (slot + slots_of_line (listed i)) insns
 
+-- from any slot on, and with any labels, the lines of a listing say the listed instructions
 listing_assembles_from : (places : List (List ℕ × ℕ)) (slot : ℕ) (insns : List Insn)
     → list_all is_insn insns ≡ true → AllFit insns → AssemblesFrom places slot (map listed insns) insns
 listing_assembles_from places slot [] h k = tt

@@ -24,6 +24,7 @@ pub source_register_again : (r : ℕ) (d : Option ℤ) → r ≤ 10
     → operand_of kind.Source (operand_text (operand.Register r)) d ≡ Ok (operand.Register r)
 source_register_again r d h = ap (λ o. source_place o (operand_text (operand.Register r))) (register_of-decimal r h)
 
+-- a number of 32 bits, with a minus where it is negative, is read in a number's place as that number
 number_is : (z : ℤ) → FitsSigned w32 z
     → number_place (option_map (λ z. operand.Number z) (imm_of (signed_decimal z))) (signed_decimal z) ≡ Ok (operand.Number z)
 number_is z h = ap (λ o. number_place (option_map (λ z. operand.Number z) o) (signed_decimal z)) (imm_of-signed z h)
@@ -40,6 +41,7 @@ no_register b (d ∷ []) h = ap (λ t. if t && (nat_le 48 d && nat_le d 57) then
 no_register b (d ∷ e ∷ []) h = ap (λ t. if t && ((d == 49) && (e == 48)) then Some 10 else None) (ne_eqb b 114 h)
 no_register b (d ∷ e ∷ f ∷ rest) h = refl
 
+-- digits name no register, nor does a number that may have a minus:
 digits_no_register : (ds : List ℕ) → list_all is_digit ds ≡ true → register_named ds ≡ None
 digits_no_register [] h = refl
 digits_no_register (b ∷ ds) h =
@@ -68,6 +70,7 @@ sign_no_label s ds h =
     (and_right (nat_le (length word) 32) (is_letter s && list_all is_label_byte word)
     (and_left (is_letter s) (list_all is_label_byte word) h))
 
+-- a number with its sign is no label
 signed_no_label : (z : ℤ) → is_label (signed_text z) ≡ false
 signed_no_label (pos n) = sign_no_label 43 (decimal n) refl
 signed_no_label (negsuc n) = sign_no_label 45 (decimal (suc n)) refl
@@ -116,6 +119,7 @@ first_place p (x ∷ xs) y ys h k =
     ap (λ b. cond b (1 + position_or_len p (xs ++ y ∷ ys)) 0) parts.0
     ∙ (let sum : 1 + position_or_len p (xs ++ y ∷ ys) ≡ suc (length xs) = omega (arith, rest) in sum)
 
+-- where none of the bytes before passes, the first byte that passes is right after them
 position_after : (p : ℕ → Bool) (xs : List ℕ) (y : ℕ) (ys : List ℕ)
     → list_all (λ b. not (p b)) xs ≡ true → p y ≡ true → position p (xs ++ y ∷ ys) ≡ Some (length xs)
 position_after p xs y ys h k =
@@ -124,6 +128,7 @@ position_after p xs y ys h k =
     lt-ltb (length xs) (length (xs ++ y ∷ ys)) (let sum = length-append xs (y ∷ ys) in omega (arith, sum)) in
     ap (λ n. cond (nat_lt n (length (xs ++ y ∷ ys))) (Some n) None) at ∙ ap (λ b. cond b (Some (length xs)) None) within
 
+-- a digit is no sign, and the name of a register has no sign:
 digit_no_sign : (b : ℕ) → is_digit b ≡ true → not (is_sign b) ≡ true
 digit_no_sign b h =
     let low : 48 ≤ b = leb-true 48 b (and_parts (nat_le 48 b) (nat_le b 57) h).0 in
@@ -147,6 +152,7 @@ cut_base r s ds z h sign is =
     some
     ∙ ap (λ o. number_place (option_map (λ z. operand.Memory r z) o) offset) is
 
+-- the text of a base and an offset is read as that place in memory
 inner_again : (r : ℕ) (z : ℤ) → r ≤ 10 → FitsSigned w16 z
     → memory_place (Some ((codes "r" ++ decimal r) ++ signed_text z)) ≡ Ok (operand.Memory r z)
 inner_again r (pos n) h k = cut_base r 43 (decimal n) (pos n) h refl (offset_of-signed (pos n) k)

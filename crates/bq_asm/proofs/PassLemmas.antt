@@ -34,10 +34,12 @@ pub record IsFirstMissing (labels : List (List ℕ)) (lines : List Line) (number
   pub missing : missing_in labels lines index ≡ Some LabelMissing
   pub before : (k : ℕ) → k < index → missing_in labels lines k ≡ None
 
+-- a jump at the first line whose label is missing is the first such jump
 first_missing : (labels : List (List ℕ)) (line : Line) (lines : List Line) (number : ℕ)
     → cause_of_jump labels line ≡ Some LabelMissing → IsFirstMissing labels (line ∷ lines) number number
 first_missing labels line lines number h = record { index = 0; at = omega arith; missing = h; before = λ k lt. absurd (omega arith) }
 
+-- where the first line has no such jump, the first among the other lines is the first of all
 later_missing : (labels : List (List ℕ)) (line : Line) (lines : List Line) (number found : ℕ)
     → cause_of_jump labels line ≡ None → IsFirstMissing labels lines (number + 1) found
     → IsFirstMissing labels (line ∷ lines) number found
@@ -90,6 +92,7 @@ sought places operands read found h e =
     turned true = refl
     turned false = refl
 
+-- a line whose instruction is read with no distance known does not jump to a missing label
 plain_jump : (labels : List (List ℕ)) (first : List ℕ) (operands : List (List ℕ)) (i : Insn)
     → instruction_of first operands None ≡ Ok i → cause_of_jump labels (Instruction first operands) ≡ None
 plain_jump labels first operands i h =
@@ -104,12 +107,14 @@ module _ (places : List (List ℕ × ℕ)) (index slot number : ℕ) (done : Lis
   abbrev later : List Awaited
   later = jumps_from (index + 1) (slot + slots_of i) (number + 1) lines
 
+  -- what the second pass gives for the lines after an instruction, with it among those that are done
   after : (v : Insn)
       → Passes places (slot + slots_of i) (number + 1) (done ++ v ∷ []) lines (with_jumps places later (done ++ v ∷ drafts_of lines))
   after v =
       subst (λ is. Passes places (slot + slots_of i) (number + 1) (done ++ v ∷ []) lines (with_jumps places later is))
       (append_assoc done (v ∷ []) (drafts_of lines)) (more v)
 
+  -- what the second pass gives where the instruction does not wait for a label
   plain : IsPlain first operands i
       → Passes places slot number done (Instruction first operands ∷ lines) (with_jumps places later (done ++ i ∷ drafts_of lines))
   plain p = passes_insn places slot number done first operands i (slots_of i) lines (with_jumps places later (done ++ i ∷ drafts_of lines))
@@ -119,6 +124,7 @@ module _ (places : List (List ℕ × ℕ)) (index slot number : ℕ) (done : Lis
   abbrev awaited : Awaited
   awaited = record { index = index; next = slot + slots_of i; line = number; label = last_word operands }
 
+  -- what the second pass gives where it is a jump that waits for a label, which is found or not
   jump : IsAwaiting first operands i → (found : Option ℕ) → lookup (bytes_eq (last_word operands)) places ≡ found
       → Passes places slot number done (Instruction first operands ∷ lines)
       (with_jump awaited (done ++ i ∷ drafts_of lines) (λ changed. with_jumps places later changed) found)
@@ -141,6 +147,7 @@ module _ (places : List (List ℕ × ℕ)) (index slot number : ℕ) (done : Lis
       (sought places operands (instruction_of first operands None) (Some at) a.unset e)
       (ap (instruction_of first operands) distance ∙ a.set z) (aimed_slots i z) (after v))
 
+  -- what the second pass gives for the line of any instruction that is read
   passes_step : instruction_of first operands (Some (pos 0)) ≡ Ok i
       → Passes places slot number done (Instruction first operands ∷ lines)
       (with_jumps places (jumps_from index slot number (Instruction first operands ∷ lines))
@@ -161,6 +168,7 @@ module _ (places : List (List ℕ × ℕ)) (index slot number : ℕ) (done : Lis
 module _ (places : List (List ℕ × ℕ)) (index slot number : ℕ) (done : List Insn) (lines : List Line)
     (more : Passes places slot (number + 1) done lines
     (with_jumps places (jumps_from index slot (number + 1) lines) (done ++ drafts_of lines))) where
+  -- what the second pass gives for the lines after it
   kept : Passes places slot (number + 1) done lines
       (with_jumps places (jumps_from (index + 0) (slot + 0) (number + 1) lines) (done ++ drafts_of lines))
   kept =

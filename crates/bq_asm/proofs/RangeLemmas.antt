@@ -10,6 +10,7 @@ use Rattle.std.proofs.lemmas.Int.{ints}
 use Rattle.bq_words.specs.Numbers.{number_in_base, below, value_of}
 use Rattle.bq_asm.specs.Numbers.{negative, imm_of, offset_of, distance_in_word, wide_of, register_named}
 
+-- a number that is kept below a limit is below it
 below_limit : (limit : ℕ) (o : Option ℕ) → IfSome (below limit o) (λ n. n < limit)
 below_limit limit None = tt
 below_limit limit (Some n) = by (nat_lt n limit) refl
@@ -18,6 +19,7 @@ below_limit limit (Some n) = by (nat_lt n limit) refl
     by true e = grind (arith, nat_tests, e)
     by false e = tt
 
+-- numbers from 0 on and negative ones, within the bounds of 32 or 16 bits with a sign, fit these bits, by cases:
 positive_fits : (n : ℕ) → n < 2 ^ 31 → FitsSigned w32 (pos n)
 positive_fits n h = omega (arith, ints)
 
@@ -30,11 +32,13 @@ near_positive_fits n h = omega (arith, ints)
 near_negative_fits : (n : ℕ) → n < 2 ^ 15 + 1 → FitsSigned w16 (negative n)
 near_negative_fits n h = omega (arith, ints)
 
+-- what a function gives of each number, it gives of a number that may be there
 module _ (P : ℕ → Type 0) (Q : ℤ → Type 0) (f : ℕ → ℤ) (h : (n : ℕ) → P n → Q (f n)) where
   mapped : (o : Option ℕ) → IfSome o P → IfSome (option_map f o) Q
   mapped None k = tt
   mapped (Some n) k = h n k
 
+-- what holds of both sides of a choice holds of the chosen one
 either : {A : Type 0} (P : A → Type 0) (b : Bool) (x y : Option A) → IfSome x P → IfSome y P → IfSome (if b then x else y) P
 either P true x y h k = h
 either P false x y h k = k
@@ -72,6 +76,7 @@ offset_fits w =
     (either (FitsSigned w16) (starts_with nat_eq w (codes "+")) (option_map (λ n. pos n) plus) None
     (mapped (λ n. n < 2 ^ 15) (FitsSigned w16) (λ n. pos n) near_positive_fits plus (below_limit (2 ^ 15) size)) tt)
 
+-- what is read as a number in some base fits 64 bits, with or without `0x`:
 number_fits : (radix : ℕ) (w : List ℕ) → IfSome (number_in_base radix w) (λ n. n < 2 ^ 64)
 number_fits radix w =
     by (nat_lt 0 (length w)) (list_all (λ c. nat_lt (digit_value c) radix) w) (nat_lt (digits_value radix w) (2 ^ 64)) refl
@@ -88,6 +93,7 @@ value_fits w =
     either (λ n. n < 2 ^ 64) (starts_with nat_eq w (codes "0x")) (number_in_base 16 (drop 2 w)) (number_in_base 10 w)
     (number_fits 16 (drop 2 w)) (number_fits 10 w)
 
+-- a number that is kept below 1 fits 64 bits
 at_most : (o : Option ℕ) → IfSome (below 1 o) (λ n. n < 1) → IfSome (below 1 o) (λ n. n < 2 ^ 64)
 at_most o h = by (below 1 o) h
   where
@@ -101,6 +107,7 @@ wide_fits w =
     either (λ n. n < 2 ^ 64) (starts_with nat_eq w (codes "-")) (below 1 (value_of (drop 1 w))) (value_of w)
     (at_most (value_of (drop 1 w)) (below_limit 1 (value_of (drop 1 w)))) (value_fits w)
 
+-- a register's name of one digit is one of at most 10
 one_digit : (r d : ℕ) → IfSome (register_named (r ∷ d ∷ [])) (λ n. n ≤ 10)
 one_digit r d = by (r == 114) (nat_le 48 d) (nat_le d 57) refl
   where

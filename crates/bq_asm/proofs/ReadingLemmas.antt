@@ -42,6 +42,7 @@ pub record HasShape (m : Mnemonic) (i : Insn) : Type 0 where
   pub jump : is_jump i ≡ is_jump_name m
   pub size : slots_of i ≡ size_of m
 
+-- if operands make an instruction of a first word, it has the shape of that word:
 IfShape : Mnemonic → Option Insn → Type 0
 IfShape m None = Unit {0}
 IfShape m (Some i) = HasShape m i
@@ -71,6 +72,7 @@ shaped_by : (m : Mnemonic) (os : List Operand) (i : Insn) → insn_from m os ≡
 unfolding IfShape
 shaped_by m os i h = subst (IfShape m) h (shaped m os)
 
+-- where the answer is no cause, there was an instruction
 some_from_ok : (o : Option Insn) (i : Insn) → ok_or o cause.Word ≡ Ok i → o ≡ Some i
 some_from_ok None i h = absurd (let e : Err cause.Word ≡ Ok i = h in cc)
 some_from_ok (Some j) i h = let e : Ok j ≡ Ok i = h in cc
@@ -89,11 +91,13 @@ made_shape m r i h = let from = made_from m r i h in shaped_by m from.0 i from.2
 abbrev pub read : Mnemonic → List (List ℕ) → Option ℤ → Result Insn AssemblyCause
 read m operands d = made m (each_operand (kind_list (kinds_of m)) operands d)
 
+-- whether no distance stands in an operand's place
 is_steady : OperandKind → Bool
 is_steady kind.Near = false
 is_steady kind.Far = false
 is_steady k = true
 
+-- without a target among the places, the operands are the same for any two distances
 steady_operands : (ks : List OperandKind) (ws : List (List ℕ)) (d e : Option ℤ)
     → list_all is_steady ks ≡ true → each_operand ks ws d ≡ each_operand ks ws e
 unfolding is_steady
@@ -126,16 +130,19 @@ pub record IsAimed (m : Mnemonic) (operands : List (List ℕ)) : Type 0 where
   pub unset : (i : Insn) → read m operands (Some (pos 0)) ≡ Ok i → read m operands None ≡ Err cause.LabelMissing
   pub never : (i : Insn) → read m operands None ≡ Ok i → ⊥
 
+-- a choice between two equal things is that thing
 both_same : (o : Option (List ℕ)) (b : Bool) → (if b then o else o) ≡ o
 both_same o true = refl
 both_same o false = refl
 
+-- an instruction has no label as its target where its last word is no label, or where it is no jump:
 no_label : (i : Insn) (operands : List (List ℕ)) → is_label (last_word operands) ≡ false → target_of i operands ≡ None
 no_label i operands h = ap (λ b. if is_jump i then (if b then Some (last_word operands) else None) else None) h ∙ both_same None (is_jump i)
 
 no_jump : (i : Insn) (operands : List (List ℕ)) → is_jump i ≡ false → target_of i operands ≡ None
 no_jump i operands h = ap (λ b. if b then (if is_label (last_word operands) then Some (last_word operands) else None) else None) h
 
+-- for a first word that says no jump, and whose operands are no targets, the distance does not matter
 steady_name : (m : Mnemonic) (operands : List (List ℕ)) → is_jump_name m ≡ false
     → list_all is_steady (kind_list (kinds_of m)) ≡ true
     → IsSteady m operands
@@ -144,6 +151,7 @@ steady_name m operands plain ks = record {
   none = λ i h. no_jump i operands ((made_shape m (each_operand (kind_list (kinds_of m)) operands (Some (pos 0))) i h).jump ∙ plain);
 }
 
+-- with a wrong number of operands the distance does not matter
 miscounted : (m : Mnemonic) (operands : List (List ℕ)) → (length operands ≡ length (kind_list (kinds_of m)) → ⊥) → IsSteady m operands
 miscounted m operands wrong =
     let word = λ (d : Option ℤ). ap (made m) (count_wrong (kind_list (kinds_of m)) operands d wrong) in
@@ -167,6 +175,7 @@ far w d b e =
     (λ b. if b then label_place (option_map (λ z. operand.Far z) d) else number_place (option_map (λ z. operand.Far z) (distance_in_word w)) w)
     e
 
+-- a `goto` to a word, near or far, has a label as its target, or the distance to a label does not matter:
 goto : (w : List ℕ) (b : Bool) → is_label w ≡ b → IsSteady name.Goto (w ∷ []) ⊎ IsAimed name.Goto (w ∷ [])
 goto w false e =
     let at = λ (d : Option ℤ). ap (λ t. made name.Goto (with_next t (Ok []))) (near w d false e) in
@@ -197,9 +206,11 @@ goto32 w true e =
 
 -- a branch, by what stands in the places before its target
 module _ (width : Width) (cond : Condition) where
+  -- the branch that its operands make, or the least cause among them
   branch : Result Operand AssemblyCause → Result Operand AssemblyCause → Result Operand AssemblyCause → Result Insn AssemblyCause
   branch a b t = made (name.Branch width cond) (with_next a (with_next b (with_next t (Ok []))))
 
+  -- the distance of a branch that is read can be set later to what it would be read with
   branch_set : (a b : Result Operand AssemblyCause) (y z : ℤ) → branch a b (Ok (operand.Near z)) ≡ aimed_by z (branch a b (Ok (operand.Near y)))
   unfolding branch
   branch_set (Ok (operand.Register d)) (Ok (operand.Number n)) y z = refl
@@ -209,6 +220,7 @@ module _ (width : Width) (cond : Condition) where
   branch_set (Err c) (Ok p) y z = refl
   branch_set (Err c) (Err d) y z = refl
 
+  -- a branch that is read with some distance is refused for its label where no distance is known
   branch_unset : (a b : Result Operand AssemblyCause) (y : ℤ) (i : Insn)
       → branch a b (Ok (operand.Near y)) ≡ Ok i
       → branch a b (Err cause.LabelMissing) ≡ Err cause.LabelMissing
@@ -218,6 +230,7 @@ module _ (width : Width) (cond : Condition) where
   branch_unset (Err c) (Ok p) y i h = absurd (let no : Err c ≡ Ok i = h in cc)
   branch_unset (Err c) (Err d) y i h = absurd (let no : Err (lesser c d) ≡ Ok i = h in cc)
 
+  -- a branch whose target is not read is not read
   branch_never : (a b : Result Operand AssemblyCause) (c : AssemblyCause) (i : Insn) → branch a b (Err c) ≡ Ok i → ⊥
   unfolding branch
   branch_never (Ok o) (Ok p) c i h = let no : Err c ≡ Ok i = h in cc
@@ -225,6 +238,7 @@ module _ (width : Width) (cond : Condition) where
   branch_never (Err d) (Ok p) c i h = let no : Err (lesser d c) ≡ Ok i = h in cc
   branch_never (Err d) (Err e) c i h = let no : Err (lesser d (lesser e c)) ≡ Ok i = h in cc
 
+  -- a branch with a label as its target waits for the label, and otherwise the distance to a label does not matter
   branch_depends : (a b w : List ℕ) (label : Bool) → is_label w ≡ label
       → IsSteady (name.Branch width cond) (a ∷ b ∷ w ∷ []) ⊎ IsAimed (name.Branch width cond) (a ∷ b ∷ w ∷ [])
   unfolding branch
@@ -296,6 +310,7 @@ plain_or_awaiting first operands i h = by (named first) refl h
           set = λ z. ap (λ x. instruction_from x operands (Some z)) n ∙ a.set z ∙ ap (aimed_by z) k;
         })) (steady_or_aimed m operands)
 
+-- what the words after this first word say, as `read`, whose name a field of the next record has too
 abbrev what_is_read : Mnemonic → List (List ℕ) → Option ℤ → Result Insn AssemblyCause
 what_is_read m operands d = read m operands d
 
@@ -305,6 +320,7 @@ pub record IsRead (first : List ℕ) (operands : List (List ℕ)) (size : ℕ) :
   pub read : instruction_of first operands (Some (pos 0)) ≡ Ok insn
   pub slots : slots_of insn ≡ size
 
+-- what is read with a distance set in it comes from an instruction that was read
 aimed_from : (z : ℤ) (r : Result Insn AssemblyCause) (i : Insn) → aimed_by z r ≡ Ok i → (j : Insn) × (r ≡ Ok j)
 aimed_from z (Ok j) i h = (j, refl)
 aimed_from z (Err c) i h = absurd (let bad : Err c ≡ Ok i = h in cc)

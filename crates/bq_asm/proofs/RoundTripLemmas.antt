@@ -31,6 +31,7 @@ insn_from-parts (insn.Load size false d s off) = refl
 insn_from-parts (insn.Load size true d s off) = refl
 insn_from-parts i = refl
 
+-- the first word of an arithmetic instruction or of a branch is read as that word, by cases:
 named-alu : (w : Width) (o : Operation) → named (mnemonic_word (name.Alu w o)) ≡ Some (name.Alu w o)
 named-alu W32 op.Add = refl
 named-alu W64 op.Add = refl

@@ -40,9 +40,11 @@ IsInRange (operand.Memory r z) = (r ≤ 10) × FitsSigned w16 z
 IsInRange (operand.Near z) = FitsSigned w16 z
 IsInRange (operand.Far z) = FitsSigned w32 z
 
+-- the cause why a word is no number: Number if it begins as one, else Word
 abbrev refused : Bool → Result Operand AssemblyCause
 refused b = if b then Err cause.Number else Err cause.Word
 
+-- what is read in a number's place is in range where the number is:
 refused_good : (b : Bool) → IfOk (refused b) IsInRange
 refused_good true = tt
 refused_good false = tt
@@ -51,11 +53,13 @@ number_good : (o : Option Operand) (w : List ℕ) → IfSome o IsInRange → IfO
 number_good (Some o) w h = h
 number_good None w h = refused_good (begins_number w)
 
+-- what a function makes of each value with some property is in range, and so is what it makes of an optional one
 module _ {A : Type 0} (P : A → Type 0) (f : A → Operand) (h : (x : A) → P x → IsInRange (f x)) where
   mapped : (o : Option A) → IfSome o P → IfSome (option_map f o) IsInRange
   mapped None k = tt
   mapped (Some x) k = h x k
 
+-- what is read in a place for a register, an immediate or either of them is in range, by cases:
 register_good : (o : Option ℕ) → IfSome o (λ r. r ≤ 10) → IfOk (register_place o) IsInRange
 register_good None h = tt
 register_good (Some r) h = h
@@ -67,9 +71,11 @@ source_good : (o : Option ℕ) (w : List ℕ) → IfSome o (λ r. r ≤ 10) → 
 source_good (Some r) w h = h
 source_good None w h = number_good (option_map (λ z. operand.Number z) (imm_of w)) w (imm_good w)
 
+-- the offset 0 fits 16 bits with a sign
 zero_fits : FitsSigned w16 (pos 0)
 zero_fits = omega (arith, ints)
 
+-- what is read as a place in memory is in range, by cases:
 based_good : (o : Option ℕ) (rest : List ℕ) → IfSome o (λ r. r ≤ 10) → IfOk (based o rest) IsInRange
 based_good None rest h = tt
 based_good (Some r) rest h = by (length rest == 0)
@@ -90,13 +96,16 @@ memory_good : (o : Option (List ℕ)) → IfOk (memory_place o) IsInRange
 memory_good None = tt
 memory_good (Some inner) = cut_good (position is_sign inner) inner
 
+-- a label's distance that is in range is an operand in range
 label_good : (o : Option Operand) → IfSome o IsInRange → IfOk (label_place o) IsInRange
 label_good None h = tt
 label_good (Some o) h = h
 
+-- what fits 16 bits with a sign fits 32
 wider : (z : ℤ) → FitsSigned w16 z → FitsSigned w32 z
 wider z h = omega (arith, ints, h)
 
+-- what is read in a near or far target's place is in range, if the distance to its label is near:
 near_good : (w : List ℕ) (d : Option ℤ) → DistanceFits d → IfOk (operand_of kind.Near w d) IsInRange
 near_good w d h = by (is_label w)
   where
@@ -121,6 +130,7 @@ far_good w d h = by (is_label w)
         number_good (option_map (λ z. operand.Far z) (distance_in_word w)) w
         (mapped (FitsSigned w32) (λ z. operand.Far z) (λ z k. k) (distance_in_word w) (distance_fits w))
 
+-- what is read in any operand's place is in range
 operand_good : (k : OperandKind) (w : List ℕ) (d : Option ℤ) → DistanceFits d → IfOk (operand_of k w d) IsInRange
 operand_good kind.Register w d h = register_good (register_named w) (register_fits w)
 operand_good kind.Source w d h = source_good (register_named w) w (register_fits w)
@@ -132,6 +142,7 @@ operand_good kind.Memory w d h = memory_good (inside w)
 operand_good kind.Near w d h = near_good w d h
 operand_good kind.Far w d h = far_good w d h
 
+-- an operand in range before others in range makes a list in range
 next_good : (a : Result Operand AssemblyCause) (b : Result (List Operand) AssemblyCause)
     → IfOk a IsInRange → IfOk b (AllByRecursion IsInRange) → IfOk (with_next a b) (AllByRecursion IsInRange)
 next_good (Ok o) (Ok os) h k = (h, k)
@@ -139,6 +150,7 @@ next_good (Ok o) (Err c) h k = tt
 next_good (Err c) (Ok os) h k = tt
 next_good (Err c) (Err d) h k = tt
 
+-- all operands that are read are in range, where the distance to a label fits
 operands_good : (ks : List OperandKind) (ws : List (List ℕ)) (d : Option ℤ)
     → DistanceFits d → IfOk (each_operand ks ws d) (AllByRecursion IsInRange)
 operands_good [] [] d h = tt
@@ -159,10 +171,12 @@ is_name (name.End order B8) = false
 is_name (name.LoadSigned Double) = false
 is_name m = true
 
+-- if operands make an instruction, it is in range and its numbers fit:
 IfFine : Option Insn → Type 0
 IfFine None = Unit {0}
 IfFine (Some i) = IsFine i
 
+-- numbers up to 10 are registers, by cases:
 register_is : (r : ℕ) → r ≤ 10 → is_register r ≡ true
 register_is r h = grind (arith, nat_tests)
 
@@ -172,6 +186,7 @@ two_registers r s h k = and_from (is_register r) (is_register s) (register_is r 
 one_register : (r : ℕ) → r ≤ 10 → (is_register r && true) ≡ true
 one_register r h = and_from (is_register r) true (register_is r h) refl
 
+-- a first word of the table and operands in range make an instruction in range
 insn_fine : (m : Mnemonic) (os : List Operand) → is_name m ≡ true → AllByRecursion IsInRange os → IfFine (insn_from m os)
 unfolding is_name IfFine
 insn_fine (name.Alu w o) (operand.Register d ∷ operand.Number n ∷ []) h g = record { in_range = one_register d g.0; fits = g.1.0 }
@@ -233,10 +248,12 @@ entries_named word (e ∷ es) h = by (bytes_eq e.0 word) (is_name e.1) refl h (�
     by false true k l more = more l
     by b false k l more = absurd (false≢true l)
 
+-- a first word that is read is one that the table has
 is_named : (word : List ℕ) → IfSome (named word) (λ m. is_name m ≡ true)
 unfolding is_name
 is_named word = entries_named word table refl
 
+-- an instruction made of operands in range is in range
 made_fine : (m : Mnemonic) (r : Result (List Operand) AssemblyCause) (i : Insn)
     → is_name m ≡ true → IfOk r (AllByRecursion IsInRange) → made m r ≡ Ok i → IsFine i
 unfolding IfFine

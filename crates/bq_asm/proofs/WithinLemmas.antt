@@ -34,6 +34,7 @@ places_within limit slot (Instruction first operands ∷ lines) h =
 abbrev pub IsNear : ℕ → ℕ → Awaited → Type 0
 IsNear limit count jump = (jump.next ≤ limit) × (jump.index < count)
 
+-- where an instruction ends within the limit and is among them, its waiting jump, if it has one, is near:
 awaited_near : (limit count index next line : ℕ) (target : Option (List ℕ)) (more : List Awaited)
     → next ≤ limit → index < count → AllByRecursion (IsNear limit count) more
     → AllByRecursion (IsNear limit count) (awaited_at index next line target ++ more)

@@ -66,6 +66,7 @@ pub finds_state : (p : PolicySource) (slot : ℕ) (insn : Insn) (named : Cause) 
 finds_state p slot insn (cause.Graph named) need known of contains is = absurd of
 finds_state p slot insn (cause.State obligation) need known of contains is = (contains, is)
 
+-- where nothing was made, all that was made is on the trail
 nothing_made : (slots : List (Option Insn)) (slot : ℕ) (made : List Made) → made ≡ [] → AreMade slots slot [] made
 nothing_made slots slot made none one there =
     absurd (let less = (subst (λ (l : List Made). Contains l one) none there).1 in let no : ⊥ = omega arith in no)

@@ -1,4 +1,4 @@
--- A line for each thing of a list.
+-- A text has a line for each thing of a list: one more line, and those that are left.
 use Rattle.std.proofs.Common.{◌≡◌, ◌∙◌, ℕ, ◌+◌, ◌<◌, List, ◌++◌, ap, append_assoc, drop, get_or, length, sym}
 use Rattle.std.specs.Prelude.{flat_map}
 use Rattle.std.proofs.lemmas.List.{at_drop_more}

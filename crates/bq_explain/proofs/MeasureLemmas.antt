@@ -1,4 +1,4 @@
--- How large the measures are that a keeper may limit.
+-- The values of a map take at most 65536 bytes.
 use Rattle.std.proofs.Common.{◌≡◌, ℕ, ◌*◌, ◌≤◌, subst, sym}
 use Rattle.std.proofs.Math.Nat.{mul-le-mul}
 use Rattle.bq_bpf.specs.declared.shape.MapShape.{MapShape}

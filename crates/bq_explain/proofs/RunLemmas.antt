@@ -1,4 +1,4 @@
--- Runs of bytes that are set.
+-- The text about the stack has each run of bytes that are set, or says that nothing is known to be written.
 use Rattle.std.proofs.Common.{◌≡◌, ℕ, ◌+◌, ◌<◌, ◌≤◌, max, Bool, false, List, [], ◌∷◌, ◌++◌, sym, ◌∙◌, ap, subst, refl, arith}
 use Rattle.std.specs.Prelude.{codes, slice_index_or}
 use Rattle.bq_needs.specs.Accesses.{AreBytesSet}

@@ -1,4 +1,4 @@
--- Where instructions stand in their slots.
+-- Where the instructions of a program begin in its slots.
 use Rattle.std.proofs.Common.{◌≡◌, ℕ, zero, suc, ◌+◌, ◌-◌, ◌<◌, List, [], ◌∷◌, ◌++◌, Option, Some, None, length, take, get_or, slice_get, replicate, length-append, refl, ◌∙◌, ap, arith}
 use Rattle.bq_verify.proofs.SpreadLemmas.{spread_more}
 use Rattle.bq_insn.specs.declared.Insn.TheVariants.{Imm64, MapRef}

@@ -16,6 +16,7 @@ count_few insns k whole =
     let few = few_slots insns whole in
     omega (arith, few, spread_long insns, count_within insns k)
 
+-- an instruction takes at most two slots
 two : (i : Insn) → slots_of i ≤ 2
 two (Imm64 dst value) = omega arith
 two (MapRef dst index) = omega arith

@@ -25,6 +25,7 @@ goes_in slots [] forward from next at edge = absurd at
 goes_in slots (first ∷ later) forward from next (inl e) edge = inr (forward.3 next (subst (λ (n : ℕ). IsEdge slots n next) e edge))
 goes_in slots (first ∷ later) forward from next (inr more) edge = inr (goes_in slots later forward.4 from next more edge)
 
+-- a path that begins in a forward order ends in it
 stays_in : (slots : List (Option Insn)) (order : List ℕ) → IsForwardOrder slots order
     → (from : ℕ) (way : List ℕ) → IsSlotIn order from → IsPath slots from way
     → IsSlotIn order (path_end from way)
@@ -37,6 +38,7 @@ begins_so : (order : List ℕ) (slot : ℕ) → begins_with order slot ≡ true 
 begins_so [] slot e = absurd (let no : ⊥ = cc in no)
 begins_so (first ∷ later) slot e = (later, ap (λ (n : ℕ). n ∷ later) (eqb-true first slot e))
 
+-- two lists that are the same begin with the same slot
 same_first : (a b : ℕ) (x y : List ℕ) → a ∷ x ≡ b ∷ y → a ≡ b
 same_first a b x y e = ap first_of e
   where

@@ -95,6 +95,7 @@ run_within (Some insn ∷ slots) = by (goes_on insn) (run_within slots)
     by true rest = omega (arith, rest)
     by false rest = omega arith
 
+-- no run from a slot is longer than the program
 run_short : (slots : List (Option Insn)) (slot : ℕ) → run_slots slots slot ≤ length slots
 run_short slots slot = let within = run_within (drop slot slots) in let long = length-drop slot slots in omega (arith, within, long)
 
@@ -103,6 +104,7 @@ below : ℕ → List ℕ
 below zero = []
 below (suc n) = n ∷ below n
 
+-- each number below one is in the list of these numbers
 is_below : (n k : ℕ) → k < n → IsSlotIn (below n) k
 unfolding below
 is_below zero k lt = absurd (omega (arith, lt))
@@ -114,6 +116,7 @@ is_below (suc n) k lt = elim (equal n k lt) [ inl e ↦ inl e | inr less ↦ inr
     equal (suc n) zero lt = inr (omega arith)
     equal (suc n) (suc k) lt = elim (equal n k (omega (arith, lt))) [ inl e ↦ inl (ap suc e) | inr less ↦ inr (omega (arith, less)) ]
 
+-- a sum over the numbers below n, each of whose parts is at most m, is at most n * m
 sum_below : (f : ℕ → ℕ) (m n : ℕ) → ((k : ℕ) → f k ≤ m) → sum_by f (below n) ≤ n * m
 unfolding below
 sum_below f m zero le = let none : sum_by f [] ≡ 0 = refl in omega (arith, none)

@@ -1,4 +1,4 @@
--- A copy that was written from its end, the other way round.
+-- A copy that was written from its end, taken the other way round, is a copy of the program.
 use Rattle.std.proofs.Common.{◌≡◌, ℕ, ◌+◌, ◌-◌, List, reverse, length, get_or, Option, None, arith, sym, ap, ◌∙◌}
 use Rattle.std.specs.Prelude.{slice_index}
 use Rattle.std.proofs.lemmas.Int.{ints}

@@ -1,4 +1,4 @@
--- What is known of a well-formed program's slots.
+-- In the slots of a well-formed program each instruction is in range, and what was written from its end is such a program.
 use Rattle.std.proofs.Common.{◌≡◌, ℕ, zero, suc, ◌-◌, ◌<◌, ◌≤◌, true, List, [], ◌∷◌, ◌++◌, Option, None, length, replicate, refl, arith, ap, ◌∙◌, subst, le-leb}
 use Rattle.std.specs.Prelude.{nat_le, ◌&&◌}
 use Rattle.std.specs.List.{list_all}
@@ -12,11 +12,13 @@ use Rattle.bq_insn.proofs.OptionLemmas.{some_same, some_none}
 use Rattle.bq_verify.proofs.SlotLemmas.{spread_long}
 use Rattle.bq_import.specs.Backward.{AreGood, IsBuilt, IsFront, insns_of}
 
+-- slots without an instruction before good ones are good
 gap_good : (n : ℕ) (rest : List (Option Insn)) → AreGood rest → AreGood (replicate n None ++ rest)
 gap_good zero rest good slot insn here = good slot insn here
 gap_good (suc n) rest good zero insn here = absurd (some_none _ insn here refl)
 gap_good (suc n) rest good (suc slot) insn here = gap_good n rest good slot insn here
 
+-- the slots of instructions in range, whose numbers fit, have only such instructions
 all_good : (insns : List Insn) → list_all is_insn insns ≡ true → AllFit insns → AreGood (spread insns)
 all_good [] all fits zero insn here = absurd (some_none _ insn here refl)
 all_good [] all fits (suc slot) insn here = absurd (some_none _ insn here refl)

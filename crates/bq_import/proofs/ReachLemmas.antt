@@ -101,6 +101,7 @@ all_reached maps old found back origins places reached at slot start =
     some_same _ (length back - 1 - path_end 0 ahead.way) (length back - 1 - slot) (at.once _ _ there) (at.once _ _ here) in
     record { rest = ahead.way; is_path = ahead.is_path; ends = omega (arith, same, inside, inside', long) }
 
+-- an instruction has no distance, or it has some distance
 distance_cases : (v : Option ℤ) → (v ≡ None) ⊎ ((far : ℤ) × (v ≡ Some far))
 distance_cases None = inl refl
 distance_cases (Some far) = inr (far, refl)
@@ -112,6 +113,7 @@ module _ (maps : ℕ) (old : List (Option Insn)) (insns : List Insn) (origins : 
   pub copy_forward : AllForward (spread insns)
   copy_forward from to edge = ((goes_forward maps old (spread insns) origins copy).0 from to edge).0
 
+  -- each instruction of a copy goes on only to an instruction, and jumps only to one
   well : (slot : ℕ) (insn : Insn) → instruction_at (spread insns) slot ≡ Some insn → LeadsWell (spread insns) slot insn
   well slot insn here =
       let at = copy.each slot (slice_index origins slot) (record { start = record { insn = insn; here = here }; origin_is = refl }) in

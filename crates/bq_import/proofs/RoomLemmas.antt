@@ -19,6 +19,7 @@ full_more a b (Loop from to) le full = full
 full_more a b Long le full = omega (arith, le, full)
 full_more a b OutOfMemory le full = tt
 
+-- of two numbers the first is at most the second, or the second is less
 le_or : (a b : ℕ) → (a ≤ b) ⊎ (b < a)
 le_or zero b = inl (omega arith)
 le_or (suc a) zero = inr (omega arith)

@@ -17,6 +17,7 @@ abbrev pub moved : State → ℕ → State
 moved s slot = record s { slot = slot }
 
 module _ (f : Setting) (slots : List (Option Insn)) (k : ℕ) where
+  -- an access or a read that is good stays so in a setting with another program, at whatever slot:
   good_beside : (address count : ℕ) (r : Region) (o : ℕ) → IsGood f address count r o → IsGood (with_program f slots) address count r o
   good_beside address count InContext o p =
       record { base = p.base; size = p.size; spans = p.spans; address_is = p.address_is; inside = p.inside }
@@ -33,6 +34,7 @@ module _ (f : Setting) (slots : List (Option Insn)) (k : ℕ) where
     set = p.set;
   }
 
+  -- a write leaves the slot as it is, and is the same at another slot, by cases:
   written_moved : (s : State) (r : Region) (o : ℕ) (bytes : List ℕ) → moved (written s r o bytes) k ≡ written (moved s k) r o bytes
   written_moved s InContext o bytes = refl
   written_moved s InStack o bytes = refl
@@ -56,6 +58,7 @@ module _ (f : Setting) (slots : List (Option Insn)) (k : ℕ) where
   writes_slot : (s : State) (address : ℕ) (bytes : List ℕ) (t : State) → Writes f s address bytes t → t.slot ≡ s.slot
   writes_slot s address bytes t p = ap (λ (u : State). u.slot) p.after ∙ written_slot s p.region p.offset bytes
 
+  -- what names a map's entry still does, and a helper does the same, at another slot in a setting with another program:
   names_moved : (s : State) (m : ℕ) (shape : MapShape) (n : ℕ)
       → NamesEntry f s m shape n → NamesEntry (with_program f slots) (moved s k) m shape n
   names_moved s m shape n p = record {
@@ -148,6 +151,7 @@ module _ (f : Setting) (slots : List (Option Insn)) (k : ℕ) where
   does_moved (Call helper) s t d p = helps_moved helper s t p
   does_moved Exit s t d p = absurd p
 
+  -- an instruction that asks a counter asks the same at another slot, and goes on as far
   asks_moved : (insn : Insn) (s : State) (c : CounterCall) (t : State)
       → Takes f insn s (Some c) t
       → Takes (with_program f slots) insn (moved s k) (Some c) (moved t (k + slots_of insn)) × (t.slot ≡ s.slot + slots_of insn)

@@ -23,6 +23,7 @@ last_between : (lo hi d : ℕ) → lo ≤ hi → hi < 2 ^ 64 → d < 2 ^ 64 → 
     → (lo ≤ 2 ^ 64 - 1 - d) × (2 ^ 64 - 1 - d ≤ hi) × ((2 ^ 64 - 1 - d + d) % 2 ^ 64 ≡ 2 ^ 64 - 1)
 last_between lo hi d ordered fits small wraps = omega arith
 
+-- an offset of 16 bits, as a word, is below 2^64
 small_distance : (off : ℤ) → SFits w16 off → word_of off < 2 ^ 64
 small_distance off fits = omega (arith, ints)
 

@@ -1,4 +1,4 @@
--- The arguments of a helper.
+-- If each argument that a helper wants is shown, the helper is given all that it wants.
 use Rattle.std.proofs.Common.{ℤ}
 use Rattle.bq_states.specs.declared.abstract_state.AbstractState.{AbstractState}
 use Rattle.bq_policy_file.specs.declared.policy_source.PolicySource.{PolicySource}

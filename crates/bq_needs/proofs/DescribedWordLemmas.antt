@@ -103,6 +103,7 @@ describes_number shapes r word within =
           ]
     ]
 
+-- a map whose shape counts adds one to the count, and other maps take nothing from it:
 count_first : (p : MapShape → Bool) (shape : MapShape) (rest : List MapShape)
     → p shape ≡ true → count_by p (shape ∷ rest) ≡ 1 + count_by p rest
 count_first p shape rest counts = sum_by-cons (λ s. cond (p s) 1 0) shape rest ∙ ap (λ (b : Bool). cond b 1 0 + count_by p rest) counts
@@ -110,6 +111,7 @@ count_first p shape rest counts = sum_by-cons (λ s. cond (p s) 1 0) shape rest 
 count_rest : (p : MapShape → Bool) (first : MapShape) (rest : List MapShape) → count_by p rest ≤ count_by p (first ∷ rest)
 count_rest p first rest = let sum = sum_by-cons (λ s. cond (p s) 1 0) first rest in omega (arith, sum)
 
+-- where the shape of a map counts, the count is at least one
 one_counted : (p : MapShape → Bool) (shapes : List MapShape) (m : ℕ) (shape : MapShape)
     → slice_get shapes m ≡ Some shape → p shape ≡ true → 1 ≤ count_by p shapes
 one_counted p [] m shape is counts = absurd cc
@@ -136,6 +138,7 @@ two_counted p (x ∷ rest) (suc m) (suc n) shape is also counts less =
     let more = count_rest p x rest in
     omega (arith, later, more)
 
+-- a shape is the same as itself
 same_itself : (shape : MapShape) → same_shape shape shape ≡ true
 same_itself shape = grind arith
 
@@ -176,6 +179,7 @@ describes_itself shapes m =
       | false ↦ itself m
     ]
 
+-- the base of an entry of a map, or of one with the same shape, is the first address of an entry of that very map
 entry_of : (shapes : List MapShape) (m base : ℕ) → (from : IsEntryBase shapes m base) → IsEntryOf shapes from.map base
 entry_of shapes m base from = record { first = from.first; size = from.size; entry = from.entry; base_is = from.base_is }
 

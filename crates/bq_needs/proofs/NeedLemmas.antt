@@ -66,6 +66,7 @@ all_known state insn registers are none r below read unset =
     let unknown : is_unknown state insn r ≡ true = rw (read, unset) refl in
     none r below (are r below ∙ unknown)
 
+-- where a test for both passes, the register is one that is read, and nothing is known of it
 not_known : (b : Bool) (o : Option AbstractValue) → (b && is_none o) ≡ true → (b ≡ true) × (o ≡ None)
 not_known false o e = absurd cc
 not_known true None e = (refl, refl)
@@ -97,6 +98,7 @@ one_more state insn n before here r k below works known =
       | inr ge ↦ let same : r ≡ n = omega arith in here k (rw same at works) (rw same at known)
     ]
 
+-- a reference is to one map, and so what is known of a register refers to at most one map:
 same_map : (m n : ℕ) → kind.Map m ≡ kind.Map n → m ≡ n
 same_map m n e = cc
 

@@ -6,6 +6,7 @@ use Rattle.bq_object.specs.Numbers.{IsPart}
 use Rattle.bq_object.specs.Sections.{IsSection, section_of}
 use Rattle.bq_object.specs.Symbols.{IsPolicySymbol, IsSymbol, symbol_of}
 
+-- two parts of a file with the same place and length are the same bytes
 one_part : (bytes : List ℕ) (at long : ℕ) (a b : List ℕ) → IsPart bytes at long a → IsPart bytes at long b → a ≡ b
 one_part bytes at long a b p q = p.part_is ∙ sym q.part_is
 

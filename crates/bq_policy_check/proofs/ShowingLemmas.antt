@@ -34,6 +34,7 @@ abbrev AreApart : List (List ℕ × Data) → Type 0
 AreApart [] = Unit {0}
 AreApart (first ∷ rest) = AreOthers first.0 rest × AreApart rest
 
+-- names that differ as bytes are not the same name
 differ : (a b : List ℕ) → bytes_eq a b ≡ false → a ≡ b → ⊥
 differ a b other same = true≢false (sym ((bytes_eq-Decides a b).1 same) ∙ other)
 
@@ -45,6 +46,7 @@ others_leave name (first ∷ rest) old others =
     others_leave name rest (put first.0 first.1 old) others.1
     ∙ get_member-put_other name first.0 first.1 old (differ name first.0 others.0)
 
+-- an object in which members were put under names of their own has each of these members
 has_all : (named : List (List ℕ × Data)) (old : Members) → AreApart named → HasMembers named (object (put_all named old))
 has_all [] old apart = tt
 has_all (first ∷ rest) old apart = (
@@ -61,14 +63,17 @@ more_behind true x m n xs ys same =
     rw (first, second) (ap (λ (l : List ℕ). x ∷ l) same)
 more_behind false x m n xs ys same = refl
 
+-- what stands behind a line does not change the first line of the text
 first_of_line : (line behind : List ℕ) → first_line ((line ++ codes "\n") ++ behind) ≡ first_line (line ++ codes "\n")
 first_of_line [] behind = refl
 first_of_line (x ∷ line) behind = more_behind (not (x == 10)) x _ _ _ _ (first_of_line line behind)
 
+-- the first line of a text that begins with a refusal's line is that of the refusal
 first_refused : (why text line : List ℕ) → StartsWith (refused_line why) text → line ≡ first_line text
     → line ≡ first_line (refused_line why)
 first_refused why text line begins is = is ∙ ap first_line begins.1 ∙ first_of_line (codes "refused " ++ why) begins.0
 
+-- the first line of a text that begins with a verdict's words is the verdict's first line
 first_of_verdict : (p : PolicySource) (verdict : Verdict) (text line : List ℕ)
     → StartsWith (first_words p verdict) text → line ≡ first_line text → IsFirstLine p verdict line
 first_of_verdict p (Accepted budget) text line begins is = (text, begins, is)
@@ -83,6 +88,7 @@ first_of_verdict p (Beyond over) text line begins is =
     text line begins is
 first_of_verdict p (Refused slot cause) text line begins is = first_refused (image_text (load.Refused slot cause)) text line begins is
 
+-- the members of an answer and those of its verdict have names of their own
 verdict_apart : (p : PolicySource) (verdict : Verdict) (accepted : Bool) (answer : Data)
     → AreApart (answer_members accepted answer ++ of_verdict p verdict)
 verdict_apart p (Accepted budget) accepted answer = search

@@ -50,10 +50,12 @@ lacks : ℕ → List ℕ → Bool
 lacks mark [] = true
 lacks mark (x ∷ xs) = cond (x == mark) false (lacks mark xs)
 
+-- a text that lacks a mark does not begin with it, and the rest of the text lacks it too
 lacks_head : (mark x : ℕ) (b rest : Bool) → (x == mark) ≡ b → cond b false rest ≡ true → (x ≢ mark) × (rest ≡ true)
 lacks_head mark x true rest is all = cc
 lacks_head mark x false rest is all = (λ same. cc (eq-eqb x mark same), all)
 
+-- a text that lacks a mark has it at no place
 lacks_free : (mark : ℕ) (text : List ℕ) → lacks mark text ≡ true → IsFreeOf mark text
 unfolding lacks
 lacks_free mark [] all i h = absurd (omega arith)
@@ -65,6 +67,7 @@ plain : List NamedField → Bool
 plain [] = true
 plain (row ∷ rows) = cond (lacks 46 row.name) (cond (nat_le row.count 64) (plain rows) false) false
 
+-- in a table whose names have no dots and whose counts are at most 64, the row of a name is such a row
 plain_row : (rows : List NamedField) (name : List ℕ) (row : NamedField)
     → plain rows ≡ true → row_named rows name ≡ Some row → IsFreeOf 46 name × (row.count ≤ 64)
 unfolding plain

@@ -19,6 +19,7 @@ all_match Place Second f = place_match 64 f (omega arith) (omega arith)
 all_match Preempt version f = preempt_match f
 all_match Pull version f = pull_match f
 
+-- what a row says of the context that is shown for these facts is what its name means
 abbrev MatchesIn : (hook : Hook) → Version → FactsOf hook → NamedField → Meaning → Type 0
 MatchesIn hook version f row m = MatchesMeaning (shown_context hook version f) (context_length_of hook version) row m
 
@@ -122,6 +123,7 @@ field_there hook version f name bytes (inr means) =
       },
     )
 
+-- the context that is shown has the length of its hook and version
 context_long : (hook : Hook) (version : Version) (f : FactsOf hook) → length (shown_context hook version f) ≡ context_length_of hook version
 context_long Place First f = length-place_bytes_first f
 context_long Place Second f = length-place_bytes_second f

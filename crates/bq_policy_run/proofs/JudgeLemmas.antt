@@ -29,6 +29,7 @@ place_long : (v : Version) (n : ℕ) → n ≡ context_length_of Place v → 36 
 place_long First n h = omega (arith, h)
 place_long Second n h = omega (arith, h)
 
+-- a word by a test is never that the answer is not shown
 by_test : (b : Bool) → cond b Permitted NotPermitted ≢ NotShown
 by_test true h = cc
 by_test false h = cc

@@ -10,6 +10,7 @@ use Rattle.bq_disc.specs.Tasks.{Task, find_task}
 use Rattle.bq_disc.specs.Queues.{HasDistinctIds, HasSmallIds, can_use}
 use Rattle.bq_disc.specs.Movable.{movable_to, ids, is_movable_to}
 
+-- the order of two tests does not matter, and a second test that fails changes nothing, by cases:
 or_comm : (a b : Bool) → (a || b) ≡ (b || a)
 or_comm true true = refl
 or_comm true false = refl
@@ -20,6 +21,7 @@ or_false : (a : Bool) → (a || false) ≡ a
 or_false true = refl
 or_false false = refl
 
+-- whether a task's id is the one that an answer names
 abbrev names : ℕ → ℕ → Bool
 names r0 id = id == r0
 
@@ -59,6 +61,7 @@ any_movable processor r0 queue d = any_reverse r0 (filter (can_use processor) qu
 abbrev pub AreSmall : List Task → Type 0
 AreSmall xs = AllByRecursion (λ (t : Task). t.id < 2 ^ 16) xs
 
+-- the ids still fit 16 bits where tasks are left out, joined or turned round, by cases:
 small_filter : (p : Task → Bool) (xs : List Task) → HasSmallIds xs → AreSmall (filter p xs)
 small_filter p [] h = tt
 small_filter p (x ∷ xs) h = go (p x) (small_filter p xs h.1)

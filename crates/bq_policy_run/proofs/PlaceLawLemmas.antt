@@ -40,6 +40,7 @@ bit_kept mask p more =
     ∙ ap (λ k. mask / 2 ^ p % 2 ^ k % 2) (let e : suc more ≡ more + 1 = omega arith in e)
     ∙ mod-mod-pow (mask / 2 ^ p) more 1
 
+-- a mask that is cut to a number of bits still allows the same processors below that number
 allows_kept : (mask p count : ℕ) → p < count → allows (mask % 2 ^ count) p ≡ allows mask p
 allows_kept mask p count h =
     let more = count - suc p in
@@ -67,6 +68,7 @@ test_of_limit : (limit processors r0 : ℕ) → (r0 < limit) ⊎ (processors ≤
 test_of_limit limit processors r0 (inl h) = grind (arith, nat_tests)
 test_of_limit limit processors r0 (inr h) = grind (arith, nat_tests)
 
+-- a word by a test says what the test says
 word_by_test : (b : Bool) → IsPermissionOn b (cond b Permitted NotPermitted)
 word_by_test true = refl
 word_by_test false = refl
@@ -80,6 +82,7 @@ place_is_rules limit f r0 h t =
     subst (λ b. IsPermissionOn (may_place f.processors f.task r0) (cond b Permitted NotPermitted)) (sym same)
     (word_by_test (may_place f.processors f.task r0))
 
+-- a word by a test permits an answer only where the test holds
 is_permitted : (b : Bool) → cond b Permitted NotPermitted ≡ Permitted → b ≡ true
 is_permitted true h = refl
 is_permitted false h = cc

@@ -52,6 +52,7 @@ ids_read number a (suc n) (x ∷ xs) h =
     ids_read number (a + 1) n xs (λ k l. ap number (let e : a + 1 + k ≡ a + suc k = omega arith in e) ∙ h (suc k) (omega arith)) in
     ap (λ m. map number (range_with_len a m)) one ∙ (λ i. first i ∷ rest i)
 
+-- the id of a task at any place fits 16 bits, and where there is no task the number is 0
 small_at : (xs : List Task) (k : ℕ) → AreSmall xs → id_or_0 (slice_get xs k) < 2 ^ 16
 small_at [] k h = omega arith
 small_at (x ∷ xs) zero h = h.0
@@ -66,9 +67,11 @@ shown_are f small =
     ap (λ n. map number (range_with_len 0 n)) shown
     ∙ ids_read number 0 8 f.movable (λ k l. ap number (let e : 0 + k ≡ k = omega arith in e) ∙ id_shown f k l (small_at f.movable k small))
 
+-- a pull context hides tasks exactly when it shows fewer of them than there are
 hidden_are : (f : PullFacts) → length f.movable < 2 ^ 32 → hides_tasks (pull_bytes f) ≡ nat_lt (min (length f.movable) 8) (length f.movable)
 hidden_are f h = λ i. nat_lt (count_shown f i) (movable_shown f h i)
 
+-- where one of the first numbers passes a test, one of all numbers does
 any_take : (p : ℕ → Bool) (n : ℕ) (xs : List ℕ) → list_any p (take n xs) ≡ true → list_any p xs ≡ true
 any_take p zero xs h = cc
 any_take p (suc n) [] h = h
@@ -79,6 +82,7 @@ any_take p (suc n) (x ∷ xs) h = go (p x) (any_take p n xs) h
     go true more k = refl
     go false more k = more k
 
+-- the word on a pull: permitted if the answer is no task or a shown one; else not shown if tasks are hidden, or not permitted
 abbrev word_by : Bool → Bool → Bool → Permission
 word_by none shown hides = cond (none || shown) Permitted (cond hides NotShown NotPermitted)
 
@@ -108,6 +112,7 @@ pull_is_rules queue f r0 h =
     subst (λ b. IsPermissionOn ((r0 == nobody) || b) (pull_permission (pull_bytes f) r0)) may
     (word_is_rules (r0 == nobody) (shows_task (pull_bytes f) r0) (hides_tasks (pull_bytes f)) r0 (ids f.movable) refl shown hides)
 
+-- the word is that the task is not shown only where tasks are hidden
 is_not_shown : (none shown hides : Bool) → word_by none shown hides ≡ NotShown → hides ≡ true
 is_not_shown true shown hides h = cc
 is_not_shown false true hides h = cc

@@ -1,4 +1,4 @@
--- A run after others, on what they left.
+-- The last of some runs begins with what those before it left, and with the context, time and processor of the first.
 use Rattle.std.proofs.Common.{◌≡◌, ℕ, Bool, false, List, [], length, Option, Some, IfSome, sym, subst, refl, String, string_bytes}
 use Rattle.bq_maps.specs.Arrays.{Arrays}
 use Rattle.bq_policy_run.specs.Changes.{changes_text, with_all}

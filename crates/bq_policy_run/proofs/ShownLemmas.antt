@@ -6,6 +6,7 @@ use Rattle.std.proofs.lemmas.List.FromFn.{get_or-map-range_with_len, length-map-
 use Rattle.std.proofs.lemmas.List.Folds.{list_any_at}
 use Rattle.bq_policy_run.specs.Permitting.{context_number, shown_id, shows_task}
 
+-- where a test fails at each place from one on, none of the places passes it
 none_of : (p : ℕ → Bool) (f : ℕ → ℕ) (a n : ℕ) → ((k : ℕ) → k < n → p (f (a + k)) ≡ false) → list_any p (map f (range_with_len a n)) ≡ false
 none_of p f a zero h = refl
 none_of p f a (suc n) h =
@@ -14,6 +15,7 @@ none_of p f a (suc n) h =
     none_of p f (a + 1) n (λ k l. ap (λ i. p (f i)) (let e : a + 1 + k ≡ a + suc k = omega arith in e) ∙ h (suc k) (omega arith)) in
     λ i. here i || rest i
 
+-- where a test holds at one of some places, one of the places passes it
 one_of : (p : ℕ → Bool) (f : ℕ → ℕ) (n k : ℕ) → k < n → p (f k) ≡ true → list_any p (map f (range_with_len 0 n)) ≡ true
 one_of p f n k l h =
     let there = get_or-map-range_with_len f 0 n k k 0 l (let e : 0 + k ≡ k = omega arith in e) in
