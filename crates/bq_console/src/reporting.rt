@@ -56,6 +56,24 @@ pub fn report_unwritten(rt: &HostRuntime, error: &Error) -> ExitCode
     report_failed(rt, &StreamFault::Write, error)
 }
 
+/// Says why the file of that name can't be written: `bqsim: p.image: can't be written: no space left on device`.
+pub fn report_file_unwritten(rt: &HostRuntime, name: &str, error: &Error) -> ExitCode
+    ensures { EndsFor (error_kind error.now) result }
+{
+    report_failed(rt, &UnwrittenFile(name), error)
+}
+
+/// The name of a file, and that it can't be written.
+#[derive(Clone, Copy)]
+struct UnwrittenFile<'a>(&'a str);
+
+impl fmt::Display for UnwrittenFile<'_> {
+    fn fmt<W: fmt::Write>(&self, f: &mut fmt::Formatter<W>) -> fmt::Result {
+        let name = Name(self.0);
+        write!(f, "{name}: can't be written")
+    }
+}
+
 /// Says what failed, and why.
 fn report_failed<W: fmt::Display>(rt: &HostRuntime, what: &W, error: &Error) -> ExitCode
     ensures { EndsFor (error_kind error.now) result }
