@@ -8,7 +8,7 @@ use bq_words::Near;
 use std::alloc::{AllocError, Global};
 
 /// The longest word, in bytes, for which a near name is looked for.
-const LONGEST: usize = 40;
+pub const LONGEST: usize = 40;
 
 /// The name of a task that is nearest to a name that no task has, if one is near.
 pub(crate) fn name_meant<'a>(
