@@ -51,10 +51,10 @@ pub fn why(
         DisciplineName::Eevdf => eevdf_reason(run, chosen),
         DisciplineName::Cfs => {
             let former = match was {
-                Some(id) => with_number(tasks, id),
+                Some(id) => find_task(tasks, id),
                 None => None,
             };
-            cfs_reason(former, chosen, with_number(tasks, run))
+            cfs_reason(former, chosen, find_task(tasks, run))
         }
     }
 }
@@ -101,7 +101,7 @@ fn least_reason(former: Option<Entity>, least: &Entity) -> Reason
 }
 
 /// The task with this id, if it is there.
-pub(crate) fn with_number(tasks: &[Entity], id: u16) -> Option<Entity>
+pub(crate) fn find_task(tasks: &[Entity], id: u16) -> Option<Entity>
     ensures { result ≡ find_task id tasks.now }
 {
     tasks.iter().copied().find(|task| task.id() == id)
