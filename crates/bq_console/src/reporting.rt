@@ -13,7 +13,7 @@ use std::fmt;
 use std::io::{Error, ErrorKind};
 use std::process::ExitCode;
 
-/// Says that memory was wanted.
+/// Says that memory ran out.
 pub fn report_out_of_memory(rt: &HostRuntime) -> ExitCode
     ensures { exit_status result ≡ 3 }
 {
