@@ -1,4 +1,4 @@
--- The name that was perhaps meant by one that no task has.
+-- The name of a task that was perhaps meant by a name that no task has.
 use Rattle.std.specs.Prelude.{ℕ, zero, suc, nat_lt, Bool, false, List, length, Option, Some, None, if◌then◌else◌, option_and_then}
 use Rattle.bq_disc.specs.declared.limits.TheConstants.{TASKS}
 use Rattle.bq_report.specs.Names.{NamedTasks, name_of}

@@ -1,4 +1,4 @@
-//! The name that was perhaps meant by one that no task has.
+//! The name of a task that was perhaps meant by a name that no task has.
 ghost use Rattle.std.specs.Prelude.{◌≡◌, IfOk, OnOk, option_map};
 ghost use Rattle.bq_timeline.specs.Meant.{edits_after, is_nearer, name_meant, nearest_task};
 
