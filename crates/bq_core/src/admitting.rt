@@ -5,13 +5,13 @@ ghost use Rattle.bq_parts.specs.Refusals.{argument_refusal};
 ghost use Rattle.bq_parts.specs.Choices.{by_programs};
 ghost use Rattle.bq_parts.specs.Steps.{WorldStep};
 
-use crate::parts::Parts;
+use crate::world_parts::WorldParts;
 use bq_disc::RunQueue;
 use bq_disc::limits::TASKS;
 use bq_parts::{Event, Refusal, Reply, new_task};
 use std::alloc::Global;
 
-impl<Q: RunQueue> Parts<Q> {
+impl<Q: RunQueue> WorldParts<Q> {
     /// A new task enters the lobby. It takes memory for the task.
     #[inline(never)]
     pub(crate) fn admit(

@@ -9,7 +9,7 @@ ghost use Rattle.bq_parts.specs.StandsOnce.{IsOrderly};
 ghost use Rattle.bq_parts.specs.declared.refusal.Refusal.TheVariants as no;
 ghost use Rattle.bq_core.specs.Laws.{StaysOrderly};
 
-use crate::parts::Parts;
+use crate::world_parts::WorldParts;
 use bq_bpf::Board;
 use bq_disc::RunQueue;
 use bq_disc::limits::PROCESSORS;
@@ -22,7 +22,7 @@ use std::marker::Model;
 /// runs or waits is on a processor of its mask. [`Core`](crate::Core) has the number of processors in its type.
 #[derive(Drop)]
 pub struct DynamicCore<Q: RunQueue> {
-    parts: Parts<Q>,
+    parts: WorldParts<Q>,
     scratch: Scratch,
 }
 
@@ -45,7 +45,7 @@ impl<Q: RunQueue + Drop> DynamicCore<Q> {
         ensures opening { IfOk result (λ c. c ≡ opening_world count) }
         ensures orderly { IfOk result (λ c. IsOrderly c) }
     {
-        let parts = Parts::new(alloc, count)?;
+        let parts = WorldParts::new(alloc, count)?;
         Ok(DynamicCore {
             parts,
             scratch: Scratch::new(),
@@ -67,7 +67,7 @@ impl<Q: RunQueue> DynamicCore<Q> {
         ensures { result ≡ record { processors = cpus.items; inboxes = inboxes.items; lobby = lobby; drawn = drawn } }
     {
         DynamicCore {
-            parts: Parts::of(cpus, inboxes, lobby, drawn),
+            parts: WorldParts::of(cpus, inboxes, lobby, drawn),
             scratch: Scratch::new(),
         }
     }

@@ -5,14 +5,14 @@ ghost use Rattle.bq_parts.specs.Choices.{by_programs};
 ghost use Rattle.bq_parts.specs.Refusals.{argument_refusal};
 ghost use Rattle.bq_parts.specs.Steps.{WorldStep};
 
-use crate::parts::Parts;
+use crate::world_parts::WorldParts;
 use bq_disc::RunQueue;
 use bq_hooks::Hook;
 use bq_installed::{Installed, Policy};
 use bq_parts::{Event, Refusal, Reply};
 use std::alloc::Global;
 
-impl<Q: RunQueue> Parts<Q> {
+impl<Q: RunQueue> WorldParts<Q> {
     /// Draws the next generation's number. After the greatest number, it draws that one again and again.
     pub(crate) fn draw(&mut self) -> Result<Reply, Refusal>
         ensures step { WorldStep (by_programs Q.R.discipline) self.old Event.Draw [] result self.new }

@@ -9,11 +9,11 @@ mod arguments;
 mod dynamic_core;
 mod generations;
 pub mod laws;
-mod parts;
 mod pulling;
 mod running;
 mod sized_core;
 mod waking;
+mod world_parts;
 
 pub use arguments::argument_refusal;
 pub use dynamic_core::DynamicCore;

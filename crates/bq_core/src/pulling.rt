@@ -9,14 +9,14 @@ ghost use Rattle.bq_parts.specs.Shares.{PullsBetween};
 ghost use Rattle.bq_parts.specs.Steps.{WorldStep};
 ghost use Rattle.bq_parts.specs.StandsOnce.{IsOrderly};
 
-use crate::parts::Parts;
+use crate::world_parts::WorldParts;
 use bq_bpf::Board;
 use bq_disc::RunQueue;
 use bq_disc::limits::PROCESSORS;
 use bq_installed::Scratch;
 use bq_parts::{Cpu, Event, Refusal, Reply};
 
-impl<Q: RunQueue> Parts<Q> {
+impl<Q: RunQueue> WorldParts<Q> {
     /// A processor takes a task from the queue of another: the one that its policy names, or that of the discipline, which
     /// takes one only if the other has at least two more.
     #[inline(never)]

@@ -6,13 +6,13 @@ ghost use Rattle.bq_parts.specs.Choices.{by_programs};
 ghost use Rattle.bq_parts.specs.Steps.{WorldStep};
 ghost use Rattle.bq_parts.specs.StandsOnce.{IsOrderly};
 
-use crate::parts::Parts;
+use crate::world_parts::WorldParts;
 use bq_bpf::Board;
 use bq_disc::RunQueue;
 use bq_installed::Scratch;
 use bq_parts::{Event, Refusal, Reply};
 
-impl<Q: RunQueue> Parts<Q> {
+impl<Q: RunQueue> WorldParts<Q> {
     /// The clock of a processor ticks.
     pub(crate) fn tick<B: Board>(
         &mut self,

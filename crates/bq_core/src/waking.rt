@@ -7,7 +7,7 @@ ghost use Rattle.bq_parts.specs.Choices.{by_programs};
 ghost use Rattle.bq_parts.specs.Steps.{WorldStep};
 ghost use Rattle.bq_parts.specs.StandsOnce.{IsOrderly};
 
-use crate::parts::Parts;
+use crate::world_parts::WorldParts;
 use bq_bpf::Board;
 use bq_disc::RunQueue;
 use bq_disc::limits::{PROCESSORS, TASKS};
@@ -15,7 +15,7 @@ use bq_hooks::Loads;
 use bq_installed::Scratch;
 use bq_parts::{Cpu, Event, Inbox, Placement, Refusal, Reply};
 
-impl<Q: RunQueue> Parts<Q> {
+impl<Q: RunQueue> WorldParts<Q> {
     /// A sleeping task comes into the hand of a processor, with the loads of that moment.
     #[inline(never)]
     pub(crate) fn begin_wake(&mut self, processor: u8, task: u16) -> Result<Reply, Refusal>

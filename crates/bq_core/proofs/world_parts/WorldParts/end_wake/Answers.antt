@@ -5,7 +5,7 @@ use Rattle.bq_parts.specs.World.{processor_at, count_in}
 use Rattle.bq_parts.proofs.OnceLemmas.{few_at}
 use Rattle.bq_core.proofs.StepLemmas.{borrowed, borrowed_inbox, counted, in_range, inbox_there, lobby_whole, write_back_inbox, write_back_processor}
 use Rattle.bq_core.proofs.ShareStepLemmas.{places_at, places_none_at, if_carried}
-use Rattle.bq_core.proofs.parts.Parts.end_wake.Goals as goal
+use Rattle.bq_core.proofs.world_parts.WorldParts.end_wake.Goals as goal
 
 pub from-requires : goal.from-requires
 from-requires g c = tt

@@ -17,14 +17,14 @@ use std::marker::Model;
 
 /// Processors, an inbox for each, the lobby, and the last number drawn. Contracts see the world that they make.
 #[derive(Drop)]
-pub struct Parts<Q: RunQueue> {
+pub struct WorldParts<Q: RunQueue> {
     pub(crate) cpus: Vec<Cpu<Q>>,
     pub(crate) inboxes: Vec<Inbox>,
     pub(crate) lobby: Lobby,
     pub(crate) drawn: u64,
 }
 
-impl<Q: RunQueue> Model for Parts<Q> {
+impl<Q: RunQueue> Model for WorldParts<Q> {
     ghost use Rattle.std.specs.Prelude.{◌≡◌, ◌≤◌, length};
     ghost use Rattle.bq_disc.specs.declared.limits.TheConstants.{PROCESSORS, TASKS};
     ghost use Rattle.bq_parts.specs.World.{World};
@@ -36,9 +36,9 @@ impl<Q: RunQueue> Model for Parts<Q> {
     ghost invariant = { λ w. (length w.cpus.items ≡ length w.inboxes.items) × (length w.inboxes.items ≤ PROCESSORS) × (length w.lobby ≡ TASKS) };
 }
 
-impl<Q: RunQueue + Drop> Parts<Q> {
+impl<Q: RunQueue + Drop> WorldParts<Q> {
     /// The opening world. It takes all the memory that later events need, except for Admit and Install.
-    pub fn new(alloc: Global, count: usize) -> Result<Parts<Q>, AllocError>
+    pub fn new(alloc: Global, count: usize) -> Result<WorldParts<Q>, AllocError>
         requires few { count ≤ PROCESSORS }
         ensures { IfOk result (λ w. w ≡ opening_world count) }
     {
@@ -49,7 +49,7 @@ impl<Q: RunQueue + Drop> Parts<Q> {
             inboxes.push(Inbox::new())?;
         }
         let lobby = Lobby::new(alloc)?;
-        Ok(Parts {
+        Ok(WorldParts {
             cpus,
             inboxes,
             lobby,
@@ -58,16 +58,21 @@ impl<Q: RunQueue + Drop> Parts<Q> {
     }
 }
 
-impl<Q: RunQueue> Parts<Q> {
+impl<Q: RunQueue> WorldParts<Q> {
     /// The world that these parts make.
-    pub(crate) fn of(cpus: Vec<Cpu<Q>>, inboxes: Vec<Inbox>, lobby: Lobby, drawn: u64) -> Parts<Q>
+    pub(crate) fn of(
+        cpus: Vec<Cpu<Q>>,
+        inboxes: Vec<Inbox>,
+        lobby: Lobby,
+        drawn: u64,
+    ) -> WorldParts<Q>
         requires few { length cpus.items ≤ PROCESSORS }
         requires inboxes { length inboxes.items ≡ length cpus.items }
         ensures { result ≡ record { processors = cpus.items; inboxes = inboxes.items; lobby = lobby; drawn = drawn } }
     {
         // Reading the lobby brings into the proof that it has an entry for each id.
         let _entries = &lobby;
-        Parts {
+        WorldParts {
             cpus,
             inboxes,
             lobby,

@@ -13,7 +13,7 @@ use Rattle.bq_parts.specs.Steps.{WorldStep}
 use Rattle.bq_parts.proofs.OnceLemmas.{each_once_running, ids_running}
 use Rattle.bq_core.proofs.StepLemmas.{borrowed, in_range, lobby_whole, write_back_processor}
 use Rattle.bq_core.proofs.ShareStepLemmas.{ticks_step}
-use Rattle.bq_core.proofs.parts.Parts.tick.Goals as goal
+use Rattle.bq_core.proofs.world_parts.WorldParts.tick.Goals as goal
 
 -- a processor's share of a tick is the world's step, where the parts are known by equations
 ticks_at : (d : Discipline) (w w' : World) (processor now : ℕ) (calls : List CounterCall) (r : Reply) (p q : Processor)

@@ -2,7 +2,7 @@ use Rattle.std.proofs.Common.{◌≡◌, length, ap, ◌∙◌, arith}
 use Rattle.bq_parts.proofs.OnceLemmas.{each_once_two, ids_two}
 use Rattle.bq_core.proofs.StepLemmas.{lent, lobby_whole, written_over, write_back_processors}
 use Rattle.bq_core.proofs.ShareStepLemmas.{pulls_at}
-use Rattle.bq_core.proofs.parts.Parts.pull.Goals as goal
+use Rattle.bq_core.proofs.world_parts.WorldParts.pull.Goals as goal
 
 pub pull_between-requires-clause-once : goal.pull_between-requires-clause-once
 pull_between-requires-clause-once g c =

@@ -18,7 +18,7 @@ use Rattle.bq_parts.specs.Steps.{WorldStep}
 use Rattle.bq_core.proofs.StepLemmas.{borrowed, in_range, write_back_processor}
 use Rattle.bq_core.proofs.InstallLemmas.{install_there, install_suits}
 use Rattle.bq_core.proofs.ShareStepLemmas.{installs_step}
-use Rattle.bq_core.proofs.parts.Parts.install.Goals as goal
+use Rattle.bq_core.proofs.world_parts.WorldParts.install.Goals as goal
 
 -- a processor's share of an Install is the world's step, where the parts are known by equations
 installs_at : (d : Discipline) (w w' : World) (processor n drawn : ℕ) (h : Hook) (o : Option Accepted) (new : Attached)

@@ -5,7 +5,7 @@ use Rattle.bq_parts.specs.declared.lobby_entry.LobbyEntry.{LobbyEntry}
 use Rattle.bq_parts.specs.declared.lobby_entry.LobbyEntry.TheVariants.{Absent}
 use Rattle.bq_parts.specs.Processors.{Processor, new_processor}
 use Rattle.bq_parts.specs.World.{World}
-use Rattle.bq_core.proofs.parts.Parts.new.Goals as goal
+use Rattle.bq_core.proofs.world_parts.WorldParts.new.Goals as goal
 
 -- a list of one thing many times, with one more at its end
 one_more : {X : Type 0} (n : ℕ) (x v : X) (xs ys : List X) → ys ≡ xs ++ v ∷ [] → v ≡ x → xs ≡ replicate n x → ys ≡ replicate (n + 1) x

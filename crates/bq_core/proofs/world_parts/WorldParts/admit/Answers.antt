@@ -8,7 +8,7 @@ use Rattle.bq_parts.specs.Refusals.{argument_refusal}
 use Rattle.bq_parts.specs.World.{World, count_in}
 use Rattle.bq_core.proofs.SizeLemmas.{entries_admitted}
 use Rattle.bq_core.proofs.ShareStepLemmas.{admits_at}
-use Rattle.bq_core.proofs.parts.Parts.admit.Goals as goal
+use Rattle.bq_core.proofs.world_parts.WorldParts.admit.Goals as goal
 
 -- an admission whose arguments are not refused is to an entry
 is_entry : (count id : ℕ) (nice : ℤ) (mask slice : ℕ) → argument_refusal count (Admit id nice mask slice) ≡ None → id < 1024

@@ -5,7 +5,7 @@ use Rattle.bq_parts.proofs.OnceLemmas.{ids_running}
 use Rattle.bq_core.proofs.StepLemmas.{borrowed, in_range, lobby_whole, write_back_lobby}
 use Rattle.bq_core.proofs.SizeLemmas.{entries_blocked}
 use Rattle.bq_core.proofs.ShareStepLemmas.{blocks_at}
-use Rattle.bq_core.proofs.parts.Parts.block.Goals as goal
+use Rattle.bq_core.proofs.world_parts.WorldParts.block.Goals as goal
 
 pub block-requires : goal.block-requires
 block-requires g c =

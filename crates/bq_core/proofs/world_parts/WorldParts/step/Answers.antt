@@ -14,7 +14,7 @@ use Rattle.bq_parts.specs.Refusals.{refusal, argument_refusal, state_refusal, ei
 use Rattle.bq_parts.specs.Choices.{PolicySemantics, by_programs}
 use Rattle.bq_parts.specs.Steps.{WorldStep}
 use Rattle.bq_parts.proofs.RefusalLemmas.{not_refused_is_there, first_refusal_passed}
-use Rattle.bq_core.proofs.parts.Parts.step.Goals as goal
+use Rattle.bq_core.proofs.world_parts.WorldParts.step.Goals as goal
 
 -- where the test of the arguments found none, none of the event that it is is refused
 none_refused : {count n : ℕ} {e e' : Event} {r : Option Refusal}

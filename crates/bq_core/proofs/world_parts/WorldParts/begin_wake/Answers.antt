@@ -5,7 +5,7 @@ use Rattle.bq_parts.proofs.OnceLemmas.{few_at}
 use Rattle.bq_core.proofs.StepLemmas.{borrowed, in_range, lent, lobby_whole, write_back_lobby}
 use Rattle.bq_core.proofs.SizeLemmas.{entries_begun}
 use Rattle.bq_core.proofs.ShareStepLemmas.{begins_at}
-use Rattle.bq_core.proofs.parts.Parts.begin_wake.Goals as goal
+use Rattle.bq_core.proofs.world_parts.WorldParts.begin_wake.Goals as goal
 
 pub loads_of-loads-requires-clause-small : goal.loads_of-loads-requires-clause-small
 loads_of-loads-requires-clause-small g c = λ i.

@@ -3,7 +3,7 @@ use Rattle.std.proofs.Math.ListN.{length-set}
 use Rattle.bq_parts.proofs.OnceLemmas.{each_once_runnable, none_beyond_at}
 use Rattle.bq_core.proofs.StepLemmas.{borrowed, borrowed_inbox, in_range, inbox_in_range, inbox_there, lobby_whole, write_back_both}
 use Rattle.bq_core.proofs.ShareStepLemmas.{drains_at}
-use Rattle.bq_core.proofs.parts.Parts.drain.Goals as goal
+use Rattle.bq_core.proofs.world_parts.WorldParts.drain.Goals as goal
 
 pub drain-requires-clause-once : goal.drain-requires-clause-once
 drain-requires-clause-once g c =
