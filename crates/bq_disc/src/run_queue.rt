@@ -8,6 +8,7 @@ ghost use Rattle.bq_disc.specs.Movable.{movable_to, is_movable_to, ids};
 ghost use Rattle.bq_disc.specs.Discipline.{Discipline, charged, entered_by, left_at, next_other};
 ghost use Rattle.bq_disc.specs.Chains.{task_of, IsLone};
 ghost use Rattle.bq_disc.specs.Pulls.{pull_of};
+ghost use Rattle.bq_weights.specs.declared.TheConstants.{GREATEST_V};
 
 use crate::limits::{FIRST_MARK, PROCESSORS};
 use crate::{Discipline, Movable, Node};
@@ -130,7 +131,7 @@ pub trait RunQueue {
     /// The mark as it was last computed.
     fn mark(&self) -> u64
         ensures value { result ≡ last_mark self.now }
-        ensures high { result ≤ 2 ^ 62 };
+        ensures high { result ≤ GREATEST_V };
 
     /// Charges a task for the time that it ran, in nanoseconds.
     fn charge(&self, node: &mut Node, time: u64)

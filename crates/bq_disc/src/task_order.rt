@@ -8,6 +8,7 @@ ghost use Rattle.bq_disc.specs.Movable.{movable_to, ids};
 ghost use Rattle.bq_disc.specs.Totals.{sums_of, is_at_most_mean, HasBounds};
 ghost use Rattle.bq_disc.specs.Dues.{first_due};
 ghost use Rattle.bq_disc.specs.Chains.{task_of, IsLone};
+ghost use Rattle.bq_weights.specs.declared.TheConstants.{GREATEST_V};
 
 use crate::limits::PROCESSORS;
 use crate::{Deadline, Movable, Node, Totals};
@@ -62,7 +63,7 @@ pub trait TaskOrder {
     /// The least (v, id) of the tasks.
     fn least(&self) -> Option<(u64, u16)>
         ensures key { result ≡ option_map key_of (first_by runs_before (tasks self.now)) }
-        ensures high { IfSome result (λ key. key.0 ≤ 2 ^ 62) };
+        ensures high { IfSome result (λ key. key.0 ≤ GREATEST_V) };
 
     /// The totals of the tasks.
     fn totals(&self) -> Totals
