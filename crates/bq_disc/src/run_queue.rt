@@ -9,6 +9,7 @@ ghost use Rattle.bq_disc.specs.Discipline.{Discipline, charged, entered_by, left
 ghost use Rattle.bq_disc.specs.Chains.{task_of, IsLone};
 ghost use Rattle.bq_disc.specs.Pulls.{pull_of};
 ghost use Rattle.bq_weights.specs.declared.TheConstants.{GREATEST_V};
+ghost use Rattle.bq_disc.specs.declared.movable.TheConstants.{MOST_NAMED};
 
 use crate::limits::{FIRST_MARK, PROCESSORS};
 use crate::{Discipline, Movable, Node};
@@ -82,7 +83,7 @@ pub trait RunQueue {
     fn movable(&self, processor: u8) -> Movable
         requires { processor < PROCESSORS }
         ensures count { result.count ≡ length (movable_to processor (members self.now)) }
-        ensures first { result.first.items ≡ take 8 (ids (movable_to processor (members self.now))) }
+        ensures first { result.first.items ≡ take MOST_NAMED (ids (movable_to processor (members self.now))) }
         ensures rising { IsRising (members self.now) };
 
     /// Whether the task with this id is there and may go to a processor.
