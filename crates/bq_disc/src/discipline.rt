@@ -1,5 +1,5 @@
 //! What a discipline chooses, and how virtual time passes under it.
-ghost use Rattle.std.specs.Prelude.{◌≡◌, ◌<◌, ◌≤◌, ◌^◌};
+ghost use Rattle.std.specs.Prelude.{◌≡◌, ◌<◌, ◌≤◌};
 ghost use Rattle.std.specs.Option.{option_map};
 ghost use Rattle.bq_weights.specs.VirtualTime.{IsWeight};
 ghost use Rattle.bq_disc.specs.Tasks.{present, id_of};
@@ -7,6 +7,7 @@ ghost use Rattle.bq_disc.specs.Discipline.{Discipline, IsLawful};
 ghost use Rattle.bq_disc.specs.Chains.{task_of};
 ghost use Rattle.bq_disc.specs.Pulls.{pull_of};
 ghost use Rattle.bq_weights.specs.declared.TheConstants.{GREATEST_V};
+ghost use Rattle.bq_disc.specs.declared.clock.TheConstants.{LATEST};
 
 use crate::limits::PROCESSORS;
 use crate::{Node, TaskOrder};
@@ -55,21 +56,21 @@ pub trait Discipline {
     /// The v at which a woken task enters, from the mark and the task's rel, slice and weight.
     fn wake(mark: u64, rel: i64, slice: u64, weight: u32) -> u64
         requires mark { mark ≤ GREATEST_V }
-        requires slice { slice < 2 ^ 48 }
+        requires slice { slice ≤ LATEST }
         requires weight { IsWeight weight }
         ensures value { result ≡ discipline.wake mark rel slice weight }
         ensures high { result ≤ GREATEST_V };
 
     /// The deadline of a task that enters at `v`.
     fn deadline(v: u64, slice: u64, weight: u32) -> u64
-        requires slice { slice < 2 ^ 48 }
+        requires slice { slice ≤ LATEST }
         requires weight { IsWeight weight }
         ensures value { result ≡ discipline.deadline v slice weight }
         ensures high { result ≤ GREATEST_V };
 
     /// The deadline of a task that has run and is at `v` now; `deadline` is the one before.
     fn renewed(v: u64, slice: u64, weight: u32, deadline: u64) -> u64
-        requires slice { slice < 2 ^ 48 }
+        requires slice { slice ≤ LATEST }
         requires weight { IsWeight weight }
         requires deadline { deadline ≤ GREATEST_V }
         ensures value { result ≡ discipline.renewed v slice weight deadline }

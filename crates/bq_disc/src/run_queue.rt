@@ -1,5 +1,5 @@
 //! What the core asks of a run queue.
-ghost use Rattle.std.specs.Prelude.{◌≡◌, ◌≤◌, ◌<◌, ◌^◌, ℕ, List, [], length, Option, Some, None, IfSome, find, take};
+ghost use Rattle.std.specs.Prelude.{◌≡◌, ◌≤◌, ◌<◌, ℕ, List, [], length, Option, Some, None, IfSome, find, take};
 ghost use Rattle.std.specs.Option.{option_map};
 ghost use Rattle.bq_disc.specs.Tasks.{Task, present, id_of, inserted, without, find_task};
 ghost use Rattle.bq_disc.specs.Queues.{follows, HasDistinctIds, HasSmallIds};
@@ -10,6 +10,7 @@ ghost use Rattle.bq_disc.specs.Chains.{task_of, IsLone};
 ghost use Rattle.bq_disc.specs.Pulls.{pull_of};
 ghost use Rattle.bq_weights.specs.declared.TheConstants.{GREATEST_V};
 ghost use Rattle.bq_disc.specs.declared.movable.TheConstants.{MOST_NAMED};
+ghost use Rattle.bq_disc.specs.declared.clock.TheConstants.{LATEST};
 
 use crate::limits::{FIRST_MARK, PROCESSORS};
 use crate::{Discipline, Movable, Node};
@@ -136,7 +137,7 @@ pub trait RunQueue {
 
     /// Charges a task for the time that it ran, in nanoseconds.
     fn charge(&self, node: &mut Node, time: u64)
-        requires { time < 2 ^ 48 }
+        requires { time ≤ LATEST }
         ensures task { task_of node.new ≡ charged Self.R.discipline (task_of node.old) time }
         ensures lone { IsLone node.old → IsLone node.new }
     {
