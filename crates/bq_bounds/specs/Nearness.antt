@@ -1,5 +1,5 @@
 -- What is measured stays within its bound, and the greatest is kept.
-use Rattle.std.specs.Prelude.{◌≡◌, ℕ, ◌+◌, ◌-◌, ◌^◌, ◌≤◌, List, ◌∷◌, map, Contains, Some, IfSome}
+use Rattle.std.specs.Prelude.{◌≡◌, ℕ, ◌+◌, ◌-◌, ◌≤◌, List, ◌∷◌, map, Contains, Some, IfSome}
 use Rattle.std.specs.List.{AllByRecursion}
 use Rattle.bq_cfs.specs.declared.discipline.TheConstants.{GRANULARITY}
 use Rattle.bq_weights.specs.VirtualTime.{IsWeight, vdelta_of}
@@ -13,6 +13,7 @@ use Rattle.bq_fairness.specs.Histories.{task_at}
 use Rattle.bq_fairness.specs.Steps.{Decide, Pass, stepped, after_steps}
 use Rattle.bq_bounds.specs.declared.charge.Charge.{Charge}
 use Rattle.bq_bounds.specs.Watches.{greatest_of}
+use Rattle.bq_weights.specs.declared.TheConstants.{GREATEST_V}
 
 -- a processor at which the discipline has decided and whose clock was read a few times since, while no task came or went
 abbrev pub runs_on : Discipline → Running → List ℕ → Running
@@ -32,7 +33,7 @@ CfsStaysNear =
 -- EEVDF: the running task is ahead of the mean of the last reading by no more than the virtual time of that rise at its weight
 abbrev pub EevdfStaysNear : Type 0
 EevdfStaysNear =
-    (p : Running) (now : ℕ) (nows : List ℕ) (a u : Task) → HasDistinctIds (present_at p) → IsWeight a.weight → a.v ≤ 2 ^ 62 →
+    (p : Running) (now : ℕ) (nows : List ℕ) (a u : Task) → HasDistinctIds (present_at p) → IsWeight a.weight → a.v ≤ GREATEST_V →
     (stepped eevdf p Decide).current ≡ Some a → (runs_on eevdf p (now ∷ nows)).current ≡ Some u →
     (u.weight ≡ a.weight) × (u.v ≤ (runs_on eevdf p (now ∷ nows)).mark + vdelta_of (risen_since eevdf p (now ∷ nows)) a.weight)
 

@@ -5,7 +5,7 @@ ghost use Rattle.bq_bounds.specs.Charges.{measured_charge, charge_from};
 
 use crate::running_task::RunningTask;
 use bq_cfs::GRANULARITY;
-use bq_weights::{GREATEST, NICE_0_WEIGHT};
+use bq_weights::{GREATEST_V, NICE_0_WEIGHT};
 use bq_words::DisciplineName;
 
 /// How far the running task was beyond the base of its discipline when its time was charged, and how far it may be. Both in virtual
@@ -42,7 +42,7 @@ impl RunningTask {
         ensures { result ≡ charge_from base allowance self.now.v self.now.weight rise since }
     {
         let come = virtual_time(rise, self.weight);
-        let v = self.v.saturating_add(come).min(GREATEST);
+        let v = self.v.saturating_add(come).min(GREATEST_V);
         let most = virtual_time(since, self.weight);
         Charge {
             difference: v.saturating_sub(base),

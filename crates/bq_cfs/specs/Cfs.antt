@@ -1,15 +1,15 @@
 -- The completely fair scheduler: the task of least virtual runtime runs.
-use Rattle.std.specs.Prelude.{ℕ, ◌≤◌, ◌+◌, min, max, ℤ, pos, negsuc, false, nat_lt, List, Option}
+use Rattle.std.specs.Prelude.{ℕ, ◌≤◌, ◌+◌, max, ℤ, neg_ℤ, false, nat_lt, List, Option}
+use Rattle.std.specs.Int.{int_max}
 use Rattle.std.specs.Option.{option_map_or}
-use Rattle.bq_cfs.specs.declared.discipline.TheConstants.{GRANULARITY}
+use Rattle.bq_cfs.specs.declared.discipline.TheConstants.{BONUS, GRANULARITY}
 use Rattle.bq_weights.specs.VirtualTime.{shift_of}
 use Rattle.bq_disc.specs.Tasks.{Task, first_by, runs_before}
 use Rattle.bq_disc.specs.Discipline.{Discipline}
 
 -- rel, but no less than -3,000,000
 abbrev pub held_above : ℤ → ℤ
-held_above (pos n) = pos n
-held_above (negsuc n) = negsuc (min n 2999999)
+held_above rel = int_max rel (neg_ℤ BONUS)
 
 -- the task of least (v, id)
 abbrev pub least : List Task → Option Task

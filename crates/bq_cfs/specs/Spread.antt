@@ -1,6 +1,6 @@
 -- The spread of CFS: how far apart the tasks of one processor can come while nothing enters and only the discipline decides
 -- who gives way.
-use Rattle.std.specs.Prelude.{ℕ, ◌+◌, ◌≤◌, ◌^◌, max, List, [], ◌∷◌, Option, Some, None, All, IfSome}
+use Rattle.std.specs.Prelude.{ℕ, ◌+◌, ◌≤◌, max, List, [], ◌∷◌, Option, Some, None, All, IfSome}
 use Rattle.std.specs.Option.{option_map_or}
 use Rattle.bq_cfs.specs.declared.discipline.TheConstants.{GRANULARITY}
 use Rattle.bq_weights.specs.VirtualTime.{IsWeight, vdelta_of}
@@ -8,14 +8,14 @@ use Rattle.bq_disc.specs.Tasks.{Task}
 use Rattle.bq_disc.specs.Queues.{HasDistinctIds}
 use Rattle.bq_disc.specs.OneProcessor.{Running, present_at, charge, choice_started, rise, ticked}
 use Rattle.bq_cfs.specs.Cfs.{cfs, least}
-use Rattle.bq_weights.specs.declared.TheConstants.{LEAST_WEIGHT}
+use Rattle.bq_weights.specs.declared.TheConstants.{GREATEST_V, LEAST_WEIGHT}
 
 -- what every processor keeps true of the tasks that are present: their ids differ, their weights are in the table's range,
 -- and their virtual times are at most 2^62
 pub record AreTasksSound (p : Running) : Type 0 where
   pub distinct : HasDistinctIds (present_at p)
   pub weights : All (λ t. IsWeight t.weight) (present_at p)
-  pub ends : All (λ t. t.v ≤ 2 ^ 62) (present_at p)
+  pub ends : All (λ t. t.v ≤ GREATEST_V) (present_at p)
 
 -- the greater of V and 1,000,000 beyond the least v of some tasks; V if there is no task
 abbrev pub bound : ℕ → List Task → ℕ

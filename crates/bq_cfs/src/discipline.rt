@@ -1,11 +1,12 @@
 //! The CFS discipline.
-ghost use Rattle.std.specs.Prelude.{◌≡◌, ◌≤◌, ◌^◌, List, IfSome};
+ghost use Rattle.std.specs.Prelude.{◌≡◌, ◌≤◌, List, IfSome};
 ghost use Rattle.std.specs.Option.{option_map};
 ghost use Rattle.bq_disc.specs.Tasks.{Task, present};
 ghost use Rattle.bq_disc.specs.Queues.{key_of};
 ghost use Rattle.bq_disc.specs.Chains.{task_of};
 ghost use Rattle.bq_cfs.specs.Cfs.{cfs, least};
 ghost use Rattle.bq_cfs.specs.Lawful.{cfs_lawful};
+ghost use Rattle.bq_weights.specs.declared.TheConstants.{GREATEST_V};
 
 use bq_disc::{Discipline, Node, RuledQueue, TaskOrder};
 use bq_tree::{NoSums, Tree};
@@ -29,7 +30,7 @@ pub type CfsQueue = RuledQueue<Tree<NoSums>, Cfs>;
 /// The least (v, id) of the queue and the current task; `queue` is the queue's least.
 fn first(current: Option<&Node>, queue: Option<(u64, u16)>) -> Option<(u64, u16)>
     ensures key { (xs : List Task) → queue ≡ option_map key_of (least xs) → result ≡ option_map key_of (least (present (option_map (λ n. task_of n.now) current.entry) xs)) }
-    ensures high { IfSome queue (λ key. key.0 ≤ 2 ^ 62) → IfSome result (λ key. key.0 ≤ 2 ^ 62) }
+    ensures high { IfSome queue (λ key. key.0 ≤ GREATEST_V) → IfSome result (λ key. key.0 ≤ GREATEST_V) }
 {
     let Some(node) = current else {
         return queue;

@@ -2,10 +2,13 @@
 ghost use Rattle.std.specs.Prelude.{◌≡◌, ◌≤◌, ◌<◌, ◌-◌, ◌*◌, ◌^◌, length, sum, IfSome, IfNone};
 ghost use Rattle.bq_comparison.specs.Means.{AreTooGreatSums, IsDeviation, IsDeviationBySums, IsMean, IsMeanBySum, IsRoot, IsTooGreat, squares};
 
+/// The most numbers that are added up. The sum of as many numbers of 64 bits is below 2^80.
+pub const MOST_NUMBERS: usize = 65_536;
+
 /// The mean of 1 to 65,536 numbers in thousandths, rounded down.
 pub fn mean(numbers: &[u64]) -> u128
     requires some { 0 < length numbers.now }
-    requires few { length numbers.now ≤ 65536 }
+    requires few { length numbers.now ≤ MOST_NUMBERS }
     ensures { IsMean numbers.now result }
 {
     mean_by_sum(numbers.len(), total(numbers))
@@ -25,7 +28,7 @@ pub(crate) fn mean_by_sum(count: usize, total: u128) -> u128
 /// below 2^44.
 pub fn deviation(numbers: &[u64]) -> Option<u128>
     requires some { 2 ≤ length numbers.now }
-    requires few { length numbers.now ≤ 65536 }
+    requires few { length numbers.now ≤ MOST_NUMBERS }
     ensures value { IfSome result (IsDeviation numbers.now) }
     ensures none { IfNone result (IsTooGreat numbers.now) }
 {
@@ -36,7 +39,7 @@ pub fn deviation(numbers: &[u64]) -> Option<u128>
 /// great to be multiplied in 128 bits.
 pub(crate) fn deviation_by_sums(count: usize, squared: u128, total: u128) -> Option<u128>
     requires some { 2 ≤ count }
-    requires few { count ≤ 65536 }
+    requires few { count ≤ MOST_NUMBERS }
     ensures value { IfSome result (IsDeviationBySums count squared total) }
     ensures none { IfNone result (AreTooGreatSums count squared total) }
 {
@@ -68,7 +71,7 @@ fn root(above: u128, below: u128) -> u128
 
 /// The sum of up to 65,536 numbers.
 fn total(numbers: &[u64]) -> u128
-    requires { length numbers.now ≤ 65536 }
+    requires { length numbers.now ≤ MOST_NUMBERS }
     ensures value { result ≡ sum numbers.now }
     ensures fits { result < 2 ^ 80 }
 {

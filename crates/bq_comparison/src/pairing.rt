@@ -1,6 +1,7 @@
 //! What the runs with the same seeds on both sides say of each figure's difference.
 ghost use Rattle.std.specs.Prelude.{◌≡◌, ◌≤◌, IfOk, length};
 ghost use Rattle.bq_comparison.specs.Pairs.{ArePairedRows, pair_of, pairs_at};
+ghost use Rattle.bq_comparison.specs.declared.means.TheConstants.{MOST_NUMBERS};
 
 use crate::RunFigures;
 use crate::pairs::{Pair, PairedRow, paired_row};
@@ -13,7 +14,7 @@ pub fn paired_rows(
     ours: &[RunFigures],
     theirs: &[RunFigures],
 ) -> Result<Vec<PairedRow>, AllocError>
-    requires few { length ours.now ≤ 65536 }
+    requires few { length ours.now ≤ MOST_NUMBERS }
     requires same { length theirs.now ≡ length ours.now }
     ensures { IfOk result (λ v. ArePairedRows ours.now theirs.now count v.items) }
 {

@@ -1,6 +1,7 @@
 //! Means and standard deviations of differences.
 ghost use Rattle.std.specs.Prelude.{◌≡◌, ◌≤◌, ◌<◌, ◌^◌, length, IfSome, IfNone};
 ghost use Rattle.bq_comparison.specs.Pairs.{ArePairsTooGreat, IsPairedDeviation, IsPairedDifference, IsPairedRow, our_sum, squared_differences, their_sum};
+ghost use Rattle.bq_comparison.specs.declared.means.TheConstants.{MOST_NUMBERS};
 
 use crate::difference::Difference;
 use crate::means::{deviation_by_sums, mean_by_sum};
@@ -33,7 +34,7 @@ struct Sums {
 
 /// What some pairs say.
 pub(crate) fn paired_row(pairs: &[Pair]) -> PairedRow
-    requires { length pairs.now ≤ 65536 }
+    requires { length pairs.now ≤ MOST_NUMBERS }
     ensures { IsPairedRow pairs.now result }
 {
     let runs = pairs.len();
@@ -57,7 +58,7 @@ pub(crate) fn paired_row(pairs: &[Pair]) -> PairedRow
 /// The difference of the means of 1 to 65,536 pairs, in thousandths.
 fn difference(pairs: &[Pair]) -> Difference
     requires some { 0 < length pairs.now }
-    requires few { length pairs.now ≤ 65536 }
+    requires few { length pairs.now ≤ MOST_NUMBERS }
     ensures { IsPairedDifference pairs.now result }
 {
     let sums = sums_of(pairs);
@@ -71,7 +72,7 @@ fn difference(pairs: &[Pair]) -> Difference
 /// differences are too great to be squared and added in 128 bits. n differences always fit if each is below 2^54 / n.
 pub fn paired_deviation(pairs: &[Pair]) -> Option<u128>
     requires some { 2 ≤ length pairs.now }
-    requires few { length pairs.now ≤ 65536 }
+    requires few { length pairs.now ≤ MOST_NUMBERS }
     ensures value { IfSome result (IsPairedDeviation pairs.now) }
     ensures none { IfNone result (ArePairsTooGreat pairs.now) }
 {
@@ -82,7 +83,7 @@ pub fn paired_deviation(pairs: &[Pair]) -> Option<u128>
 
 /// The sums of up to 65,536 pairs.
 fn sums_of(pairs: &[Pair]) -> Sums
-    requires { length pairs.now ≤ 65536 }
+    requires { length pairs.now ≤ MOST_NUMBERS }
     ensures ours { result.ours ≡ our_sum pairs.now }
     ensures theirs { result.theirs ≡ their_sum pairs.now }
     ensures fits { (result.ours < 2 ^ 80) × (result.theirs < 2 ^ 80) }

@@ -1,6 +1,7 @@
 //! What several runs say of each figure.
 ghost use Rattle.std.specs.Prelude.{◌≡◌, ◌≤◌, IfOk, length};
 ghost use Rattle.bq_comparison.specs.Rows.{AreRows, IsRow, numbers_at};
+ghost use Rattle.bq_comparison.specs.declared.means.TheConstants.{MOST_NUMBERS};
 
 use crate::naming::Figure;
 use crate::runs::RunFigures;
@@ -26,7 +27,7 @@ pub fn rows(
     figures: &[Figure],
     runs: &[RunFigures],
 ) -> Result<Vec<FigureRow>, AllocError>
-    requires { length runs.now ≤ 65536 }
+    requires { length runs.now ≤ MOST_NUMBERS }
     ensures { IfOk result (λ v. AreRows runs.now figures.now v.items) }
 {
     let mut rows = Vec::new(alloc);
@@ -39,7 +40,7 @@ pub fn rows(
 
 /// What the numbers say of a figure.
 fn row_of(figure: Figure, numbers: &[u64]) -> FigureRow
-    requires { length numbers.now ≤ 65536 }
+    requires { length numbers.now ≤ MOST_NUMBERS }
     ensures { IsRow figure numbers.now result }
 {
     let runs = numbers.len();

@@ -4,6 +4,7 @@ use Rattle.std.specs.Option.{option_map_or}
 use Rattle.bq_disc.specs.Tasks.{Task, find_task}
 use Rattle.bq_disc.specs.Queues.{can_use}
 use Rattle.bq_disc.specs.declared.movable.Movable.{Movable}
+use Rattle.bq_disc.specs.declared.movable.TheConstants.{MOST_NAMED}
 
 -- the tasks that may use a processor, the greatest (v, id) first
 abbrev pub movable_to : ℕ → List Task → List Task
@@ -20,5 +21,5 @@ is_movable_to processor id xs = option_map_or (can_use processor) (find_task id 
 -- one more stretch of the queue, looked at from its last task to its first, takes the tally from `old` to `new`
 pub record AddsMovable (processor : ℕ) (xs : List Task) (old new : Movable) : Type 0 where
   pub count : new.count ≡ old.count + length (movable_to processor xs)
-  pub first : new.first.items ≡ take 8 (old.first.items ++ ids (movable_to processor xs))
-  pub fits : length new.first.items ≤ 8
+  pub first : new.first.items ≡ take MOST_NAMED (old.first.items ++ ids (movable_to processor xs))
+  pub fits : length new.first.items ≤ MOST_NAMED

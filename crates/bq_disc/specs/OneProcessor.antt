@@ -1,10 +1,11 @@
 -- One processor by itself: the task that runs, the queue, the mark and the clock; how its time passes, and who runs next.
 -- The choices are those of sched-design-CFS.rst and sched-eevdf.rst; marks, entries and exchanges are this project's own.
-use Rattle.std.specs.Prelude.{ℕ, ◌-◌, ◌^◌, min, max, Bool, false, List, [], ◌∷◌, Option, Some, None, if◌then◌else◌}
+use Rattle.std.specs.Prelude.{ℕ, ◌-◌, min, max, Bool, false, List, [], ◌∷◌, Option, Some, None, if◌then◌else◌}
 use Rattle.std.specs.Option.{option_map}
 use Rattle.bq_disc.specs.Tasks.{Task, find_task, without, inserted, present, id_of}
 use Rattle.bq_disc.specs.Discipline.{Discipline, charged, woken, next_of}
 use Rattle.bq_disc.specs.declared.limits.TheConstants.{FIRST_MARK}
+use Rattle.bq_disc.specs.declared.clock.TheConstants.{LATEST}
 
 -- the queue, the mark as it was last computed, the task that runs, and the last reading of the clock
 pub record Running : Type 0 where
@@ -23,7 +24,7 @@ present_at p = present p.current p.queue
 
 -- what a reading counts as: at most 2^48 - 1, and no less than the last reading
 abbrev pub reading : ℕ → ℕ → ℕ
-reading last now = max last (min now (2 ^ 48 - 1))
+reading last now = max last (min now LATEST)
 
 -- the processor with its mark computed again over the tasks present
 abbrev pub marked : Discipline → Running → Running

@@ -1,10 +1,10 @@
 -- The totals of some tasks, and their mean v.
-use Rattle.std.specs.Prelude.{Bool, ℕ, suc, ◌+◌, ◌*◌, ◌/◌, ◌≤◌, ◌^◌, nat_le, List, [], ◌∷◌, length, Option, Some, None}
+use Rattle.std.specs.Prelude.{Bool, ℕ, suc, ◌+◌, ◌*◌, ◌/◌, ◌≤◌, nat_le, List, [], ◌∷◌, length, Option, Some, None}
 use Rattle.std.specs.List.{AllByRecursion}
 use Rattle.bq_weights.specs.VirtualTime.{IsWeight}
 use Rattle.bq_disc.specs.Tasks.{Task}
 use Rattle.bq_disc.specs.declared.totals.Totals.{Totals}
-use Rattle.bq_weights.specs.declared.TheConstants.{LEAST_WEIGHT, GREATEST_WEIGHT}
+use Rattle.bq_weights.specs.declared.TheConstants.{GREATEST_V, GREATEST_WEIGHT, LEAST_WEIGHT}
 
 -- the sum of the weights of some tasks
 abbrev pub total_weight : List Task → ℕ
@@ -43,10 +43,10 @@ joined s r = record { moment = s.moment + r.moment; weight = s.weight + r.weight
 
 -- a task's weight and v are in their ranges
 abbrev pub IsBounded : Task → Type 0
-IsBounded t = IsWeight t.weight × (t.v ≤ 2 ^ 62)
+IsBounded t = IsWeight t.weight × (t.v ≤ GREATEST_V)
 
 -- the bounds of totals, in terms of how many tasks there are
 pub record HasBounds (s : Totals) : Type 0 where
   pub weight_low : LEAST_WEIGHT * s.count ≤ s.weight
   pub weight_high : s.weight ≤ GREATEST_WEIGHT * s.count
-  pub moment_high : s.moment ≤ 2 ^ 62 * s.weight
+  pub moment_high : s.moment ≤ GREATEST_V * s.weight

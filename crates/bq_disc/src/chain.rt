@@ -7,6 +7,7 @@ ghost use Rattle.bq_disc.specs.Chains.{task_of, IsLone, chain_behind, IsStraight
 ghost use Rattle.bq_disc.specs.Totals.{sums_of, is_at_most_mean, HasBounds};
 ghost use Rattle.bq_disc.specs.Dues.{first_due};
 ghost use Rattle.bq_disc.specs.Movable.{AddsMovable};
+ghost use Rattle.bq_disc.specs.declared.movable.TheConstants.{MOST_NAMED};
 
 use crate::limits::PROCESSORS;
 use crate::node::{Link, behind};
@@ -205,7 +206,7 @@ fn earliest_behind(chain: &Link, weight: u64, moment: u128) -> Option<Deadline>
 pub(crate) fn movable_behind(link: &Link, processor: u8, found: &mut Movable)
     requires processor { processor < PROCESSORS }
     requires few { found.old.count + length (chain_behind link.now) ≤ 2 ^ 20 }
-    requires fits { length found.old.first.items ≤ 8 }
+    requires fits { length found.old.first.items ≤ MOST_NAMED }
     ensures { AddsMovable processor (chain_behind link.now) found.old found.new }
 {
     let Some(node) = link else {

@@ -6,6 +6,7 @@ ghost use Rattle.bq_disc.specs.Tasks.{runs_before};
 ghost use Rattle.bq_disc.specs.Dues.{due_of};
 ghost use Rattle.bq_disc.specs.Totals.{is_at_most_mean};
 ghost use Rattle.bq_disc.specs.Queues.{can_use, key_of};
+ghost use Rattle.bq_weights.specs.declared.TheConstants.{GREATEST_V};
 
 use crate::Deadline;
 use crate::limits::PROCESSORS;
@@ -30,6 +31,7 @@ impl Model for Entity {
     ghost use Rattle.bq_weights.specs.VirtualTime.{IsWeight};
     ghost use Rattle.bq_disc.specs.declared.limits.TheConstants.{GREATEST_SLICE, LEAST_SLICE};
     ghost use Rattle.bq_disc.specs.Tasks.{Task, coded_task};
+    ghost use Rattle.bq_weights.specs.declared.TheConstants.{GREATEST_V};
 
     ghost Value = { Task };
 
@@ -37,7 +39,7 @@ impl Model for Entity {
 
     ghost view = { λ e. record { id = e.id; weight = e.weight; mask = e.mask; slice = e.slice; v = e.v; deadline = e.deadline; rel = e.rel; prev = e.prev } };
 
-    ghost invariant = { λ e. IsWeight e.weight × (LEAST_SLICE ≤ e.slice) × (e.slice ≤ GREATEST_SLICE) × (e.v ≤ 2 ^ 62) × (e.deadline ≤ 2 ^ 62) };
+    ghost invariant = { λ e. IsWeight e.weight × (LEAST_SLICE ≤ e.slice) × (e.slice ≤ GREATEST_SLICE) × (e.v ≤ GREATEST_V) × (e.deadline ≤ GREATEST_V) };
 
     ghost inverse = { λ t. record { id = t.id; weight = t.weight; mask = t.mask; slice = t.slice; v = t.v; deadline = t.deadline; rel = t.rel; prev = t.prev } };
 }
@@ -96,7 +98,7 @@ impl Entity {
     /// Its virtual runtime in virtual nanoseconds, at most 2^62.
     pub fn v(&self) -> u64
         ensures value { result ≡ self.now.v }
-        ensures high { result ≤ 2 ^ 62 }
+        ensures high { result ≤ GREATEST_V }
     {
         self.v
     }
@@ -104,7 +106,7 @@ impl Entity {
     /// Its virtual deadline in virtual nanoseconds, at most 2^62; 0 under CFS.
     pub fn deadline(&self) -> u64
         ensures value { result ≡ self.now.deadline }
-        ensures high { result ≤ 2 ^ 62 }
+        ensures high { result ≤ GREATEST_V }
     {
         self.deadline
     }
@@ -125,8 +127,8 @@ impl Entity {
 
     /// Gives it another v and deadline.
     pub fn set_times(&mut self, v: u64, deadline: u64)
-        requires v { v ≤ 2 ^ 62 }
-        requires deadline { deadline ≤ 2 ^ 62 }
+        requires v { v ≤ GREATEST_V }
+        requires deadline { deadline ≤ GREATEST_V }
         ensures { self.new ≡ record self.old { v = v; deadline = deadline } }
     {
         self.v = v;
@@ -158,7 +160,7 @@ impl Entity {
     /// Its place in the order: its (v, id).
     pub fn key(&self) -> (u64, u16)
         ensures value { result ≡ key_of self.now }
-        ensures high { result.0 ≤ 2 ^ 62 }
+        ensures high { result.0 ≤ GREATEST_V }
         ensures small { result.1 < 2 ^ 16 }
     {
         (self.v(), self.id())

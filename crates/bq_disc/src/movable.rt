@@ -7,11 +7,14 @@ use crate::Entity;
 use crate::limits::PROCESSORS;
 use arrayvec::ArrayVec;
 
+/// The most tasks of which the ids are kept.
+pub const MOST_NAMED: usize = 8;
+
 /// How many tasks may go, and the ids of the first eight of them, the greatest (v, id) first.
 #[derive(Drop)]
 pub struct Movable {
     pub count: u32,
-    pub first: ArrayVec<u16, 8>,
+    pub first: ArrayVec<u16, MOST_NAMED>,
 }
 
 impl Movable {
@@ -30,7 +33,7 @@ impl Movable {
     pub fn add(&mut self, entity: &Entity, processor: u8)
         requires processor { processor < PROCESSORS }
         requires few { self.old.count < 2 ^ 20 }
-        requires fits { length self.old.first.items ≤ 8 }
+        requires fits { length self.old.first.items ≤ MOST_NAMED }
         ensures { AddsMovable processor (entity.now ∷ []) self.old self.new }
     {
         if !entity.can_use(processor) {

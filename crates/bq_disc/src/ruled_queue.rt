@@ -1,6 +1,6 @@
 //! Tasks in order, under a discipline, are a run queue.
-ghost use Rattle.std.specs.Prelude.{◌^◌};
 ghost use Rattle.bq_disc.specs.Queues.{Queue};
+ghost use Rattle.bq_weights.specs.declared.TheConstants.{GREATEST_V};
 
 use crate::limits::FIRST_MARK;
 use crate::{Chain, Discipline, Movable, Node, RunQueue, TaskOrder};
@@ -18,8 +18,9 @@ pub struct RuledQueue<T: TaskOrder, R: Discipline> {
 pub type List<R> = RuledQueue<Chain, R>;
 
 impl<T: TaskOrder, R: Discipline> Model for RuledQueue<T, R> {
-    ghost use Rattle.std.specs.Prelude.{◌≤◌, ◌^◌};
+    ghost use Rattle.std.specs.Prelude.{◌≤◌};
     ghost use Rattle.bq_disc.specs.Queues.{Queue, coded_queue};
+    ghost use Rattle.bq_weights.specs.declared.TheConstants.{GREATEST_V};
 
     ghost Value = { Queue };
 
@@ -27,7 +28,7 @@ impl<T: TaskOrder, R: Discipline> Model for RuledQueue<T, R> {
 
     ghost view = { λ q. record { members = T.tasks q.tasks; mark = q.mark } };
 
-    ghost invariant = { λ q. q.mark ≤ 2 ^ 62 };
+    ghost invariant = { λ q. q.mark ≤ GREATEST_V };
 }
 
 impl<T: TaskOrder, R: Discipline> RunQueue for RuledQueue<T, R> {

@@ -1,5 +1,5 @@
 //! What the core asks of a run queue.
-ghost use Rattle.std.specs.Prelude.{◌≡◌, ◌≤◌, ◌<◌, ◌^◌, ℕ, List, [], length, Option, Some, None, IfSome, find, take};
+ghost use Rattle.std.specs.Prelude.{◌≡◌, ◌≤◌, ◌<◌, ℕ, List, [], length, Option, Some, None, IfSome, find, take};
 ghost use Rattle.std.specs.Option.{option_map};
 ghost use Rattle.bq_disc.specs.Tasks.{Task, present, id_of, inserted, without, find_task};
 ghost use Rattle.bq_disc.specs.Queues.{follows, HasDistinctIds, HasSmallIds};
@@ -8,6 +8,9 @@ ghost use Rattle.bq_disc.specs.Movable.{movable_to, is_movable_to, ids};
 ghost use Rattle.bq_disc.specs.Discipline.{Discipline, charged, entered_by, left_at, next_other};
 ghost use Rattle.bq_disc.specs.Chains.{task_of, IsLone};
 ghost use Rattle.bq_disc.specs.Pulls.{pull_of};
+ghost use Rattle.bq_weights.specs.declared.TheConstants.{GREATEST_V};
+ghost use Rattle.bq_disc.specs.declared.movable.TheConstants.{MOST_NAMED};
+ghost use Rattle.bq_disc.specs.declared.clock.TheConstants.{LATEST};
 
 use crate::limits::{FIRST_MARK, PROCESSORS};
 use crate::{Discipline, Movable, Node};
@@ -81,7 +84,7 @@ pub trait RunQueue {
     fn movable(&self, processor: u8) -> Movable
         requires { processor < PROCESSORS }
         ensures count { result.count ≡ length (movable_to processor (members self.now)) }
-        ensures first { result.first.items ≡ take 8 (ids (movable_to processor (members self.now))) }
+        ensures first { result.first.items ≡ take MOST_NAMED (ids (movable_to processor (members self.now))) }
         ensures rising { IsRising (members self.now) };
 
     /// Whether the task with this id is there and may go to a processor.
@@ -130,11 +133,11 @@ pub trait RunQueue {
     /// The mark as it was last computed.
     fn mark(&self) -> u64
         ensures value { result ≡ last_mark self.now }
-        ensures high { result ≤ 2 ^ 62 };
+        ensures high { result ≤ GREATEST_V };
 
     /// Charges a task for the time that it ran, in nanoseconds.
     fn charge(&self, node: &mut Node, time: u64)
-        requires { time < 2 ^ 48 }
+        requires { time ≤ LATEST }
         ensures task { task_of node.new ≡ charged Self.R.discipline (task_of node.old) time }
         ensures lone { IsLone node.old → IsLone node.new }
     {

@@ -8,6 +8,8 @@ ghost use Rattle.bq_disc.specs.Movable.{movable_to, ids};
 ghost use Rattle.bq_disc.specs.Totals.{sums_of, is_at_most_mean, HasBounds};
 ghost use Rattle.bq_disc.specs.Dues.{first_due};
 ghost use Rattle.bq_disc.specs.Chains.{task_of, IsLone};
+ghost use Rattle.bq_weights.specs.declared.TheConstants.{GREATEST_V};
+ghost use Rattle.bq_disc.specs.declared.movable.TheConstants.{MOST_NAMED};
 
 use crate::limits::PROCESSORS;
 use crate::{Deadline, Movable, Node, Totals};
@@ -56,13 +58,13 @@ pub trait TaskOrder {
     fn movable(&self, processor: u8) -> Movable
         requires { processor < PROCESSORS }
         ensures count { result.count ≡ length (movable_to processor (tasks self.now)) }
-        ensures first { result.first.items ≡ take 8 (ids (movable_to processor (tasks self.now))) }
+        ensures first { result.first.items ≡ take MOST_NAMED (ids (movable_to processor (tasks self.now))) }
         ensures rising { IsRising (tasks self.now) };
 
     /// The least (v, id) of the tasks.
     fn least(&self) -> Option<(u64, u16)>
         ensures key { result ≡ option_map key_of (first_by runs_before (tasks self.now)) }
-        ensures high { IfSome result (λ key. key.0 ≤ 2 ^ 62) };
+        ensures high { IfSome result (λ key. key.0 ≤ GREATEST_V) };
 
     /// The totals of the tasks.
     fn totals(&self) -> Totals

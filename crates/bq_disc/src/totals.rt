@@ -2,6 +2,7 @@
 ghost use Rattle.std.specs.Prelude.{◌≡◌, ◌≤◌, ◌<◌, ◌*◌, ◌^◌, List, [], IfSome};
 ghost use Rattle.bq_disc.specs.Tasks.{Task};
 ghost use Rattle.bq_disc.specs.Totals.{HasBounds, sums_of, added, joined, mean_of, IsBounded};
+ghost use Rattle.bq_weights.specs.declared.TheConstants.{GREATEST_V};
 
 use crate::Entity;
 
@@ -75,7 +76,7 @@ impl Totals {
     pub fn mean(&self) -> Option<u64>
         requires { HasBounds self.now }
         ensures value { (xs : List Task) → self.now ≡ sums_of xs → result ≡ mean_of xs }
-        ensures high { IfSome result (λ mean. mean ≤ 2 ^ 62) }
+        ensures high { IfSome result (λ mean. mean ≤ GREATEST_V) }
     {
         if self.count == 0 {
             return None;

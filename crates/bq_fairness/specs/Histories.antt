@@ -1,11 +1,12 @@
 -- Histories of Ticks at one processor where only the discipline decides who gives way, and what each task is served in them.
-use Rattle.std.specs.Prelude.{ℕ, ◌+◌, ◌-◌, ◌*◌, ◌≤◌, ◌^◌, if◌then◌else◌, List, [], ◌∷◌, Option, All}
+use Rattle.std.specs.Prelude.{ℕ, ◌+◌, ◌-◌, ◌*◌, ◌≤◌, if◌then◌else◌, List, [], ◌∷◌, Option, All}
 use Rattle.std.specs.Option.{option_map_or}
 use Rattle.bq_weights.specs.VirtualTime.{vdelta_of}
 use Rattle.bq_disc.specs.Tasks.{Task, has_id, find_task}
 use Rattle.bq_disc.specs.Discipline.{Discipline}
 use Rattle.bq_disc.specs.OneProcessor.{Running, present_at, rise, ticked}
-use Rattle.bq_weights.specs.declared.TheConstants.{GREATEST, LEAST_WEIGHT, NICE_0_WEIGHT}
+use Rattle.bq_weights.specs.declared.TheConstants.{GREATEST_V, LEAST_WEIGHT, NICE_0_WEIGHT}
+use Rattle.bq_disc.specs.declared.clock.TheConstants.{LATEST}
 
 -- the processor after some Ticks, one after another
 abbrev pub history : Discipline → Running → List ℕ → Running
@@ -32,4 +33,4 @@ served id d p (now ∷ nows) = tick_charge id p now + served id d (ticked d p no
 
 -- virtual time does not run out before the clock does: even at the least weight, the rest of the clock takes no task beyond 2^62
 abbrev pub HasRoom : Running → Type 0
-HasRoom p = All (λ t. LEAST_WEIGHT * t.v + NICE_0_WEIGHT * (2 ^ 48 - 1 - p.last) ≤ LEAST_WEIGHT * GREATEST) (present_at p)
+HasRoom p = All (λ t. LEAST_WEIGHT * t.v + NICE_0_WEIGHT * (LATEST - p.last) ≤ LEAST_WEIGHT * GREATEST_V) (present_at p)

@@ -8,6 +8,7 @@ use Rattle.bq_hooks.specs.Hooks.{version_number}
 use Rattle.bq_load.specs.declared.fault.LoadFault.{LoadFault}
 use Rattle.bq_load.specs.declared.fault.LoadFault.TheVariants as fault
 use Rattle.bq_load.specs.Layout.{magic, hook_byte, shape_bytes, shapes_bytes, image_opening, Header, header_bytes, IsHeader}
+use Rattle.bq_bpf.specs.declared.shape.TheConstants.{MAPS}
 
 -- the fields at the front: none; the letters; also the version; also the hook; also the number of maps and some shapes;
 -- or the whole header
@@ -21,7 +22,7 @@ pub data Front : Type 0 where
 
 -- all fields at the front are good
 abbrev pub AreGoodFields : Front → Type 0
-AreGoodFields (Mapped version hook count shapes) = (count ≤ 8) × (length shapes ≤ count)
+AreGoodFields (Mapped version hook count shapes) = (count ≤ MAPS) × (length shapes ≤ count)
 AreGoodFields (Headed h) = IsHeader h
 AreGoodFields _ = Unit {0}
 
@@ -49,6 +50,6 @@ abbrev pub IsBadNext : Front → List ℕ → LoadFault → Type 0
 IsBadNext Nothing field fault.Magic = field ≢ magic
 IsBadNext Marked field fault.Version = (version : Version) → field ≢ version_number version ∷ []
 IsBadNext (Versioned _) field fault.Hook = (hook : Hook) → field ≢ hook_byte hook ∷ []
-IsBadNext (Hooked _ _) field fault.Shape = (count : ℕ) → count ≤ 8 → field ≢ to_le_bytes w16 count
+IsBadNext (Hooked _ _) field fault.Shape = (count : ℕ) → count ≤ MAPS → field ≢ to_le_bytes w16 count
 IsBadNext (Mapped _ _ count shapes) field fault.Shape = (length shapes < count) × ((shape : MapShape) → field ≢ shape_bytes shape)
 IsBadNext _ field _ = ⊥

@@ -8,6 +8,7 @@ use Rattle.bq_hooks.specs.declared.hook.Hook.{Hook}
 use Rattle.bq_hooks.specs.declared.hook.Hook.TheVariants.{Place, Preempt, Pull}
 use Rattle.bq_hooks.specs.declared.hook.Version.{Version}
 use Rattle.bq_hooks.specs.Hooks.{version_number}
+use Rattle.bq_bpf.specs.declared.shape.TheConstants.{MAPS}
 
 -- BQPI
 abbrev pub magic : List ℕ
@@ -44,7 +45,7 @@ header_bytes h = image_opening h.version h.hook (length h.shapes) ++ (shapes_byt
 
 -- the header has at most 8 maps, and its number of slots fits four bytes
 pub record IsHeader (h : Header) : Type 0 where
-  pub few : length h.shapes ≤ 8
+  pub few : length h.shapes ≤ MAPS
   pub slots : h.slots < 2 ^ 32
 
 -- the bytes are this header and a program of as many slots as the header says, and nothing more

@@ -6,6 +6,7 @@ use Rattle.std.specs.Char.{digit_value}
 use Rattle.std.specs.Str.Parse.{digits_value}
 use Rattle.bq_bpf.specs.declared.shape.MapShape.{MapShape}
 use Rattle.bq_words.specs.Words.{parts}
+use Rattle.bq_bpf.specs.declared.shape.TheConstants.{MAPS}
 
 -- the first `len` bytes of the text are no marks, and a mark or the end follows them
 pub record IsPartLen (mark : ℕ) (text : List ℕ) (len : ℕ) : Type 0 where
@@ -45,7 +46,7 @@ numbers_of s = Some (s.value_size, s.entries)
 -- the text names these shapes, at most 8, with commas between them
 pub record NamesShapes (text : List ℕ) (shapes : List MapShape) : Type 0 where
   pub each : map numbers_in (parts 44 text) ≡ map numbers_of shapes
-  pub few : length shapes ≤ 8
+  pub few : length shapes ≤ MAPS
 
 -- the text names no shapes
 abbrev pub NamesNoShapes : List ℕ → Type 0

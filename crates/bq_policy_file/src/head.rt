@@ -1,6 +1,7 @@
 //! What a text says of its program beside the instructions.
 ghost use Rattle.std.specs.Prelude.{◌≤◌, length};
 ghost use Rattle.std.specs.Option.{ForSome};
+ghost use Rattle.bq_bpf.specs.declared.shape.TheConstants.{MAPS};
 
 use crate::fault::{HeadCause, HeadFault, refusal};
 use crate::mark::{Key, Mark, mark_of};
@@ -18,7 +19,7 @@ pub struct Head {
     pub maps: Option<Vec<MapShape>>,
     /// The version of its image.
     pub format: Option<Version>,
-    ghost few: { ForSome maps (λ shapes. length shapes.items ≤ 8) },
+    ghost few: { ForSome maps (λ shapes. length shapes.items ≤ MAPS) },
 }
 
 impl Head {

@@ -27,6 +27,7 @@ use Rattle.bq_simulate.specs.Deeds.{length_taken}
 use Rattle.bq_simulate.proofs.MeetAgreeLemmas.{advanced_state, woken_one_state}
 use Rattle.bq_simulate.proofs.StandingLemmas.{else_of}
 use Rattle.bq_simulate.proofs.StepsAheadLemmas.{dropped-first, steps-first, steps-some}
+use Rattle.bq_disc.specs.declared.clock.TheConstants.{LATEST}
 
 -- Lengths
 
@@ -147,7 +148,7 @@ at-most s rings false steps is = omega (arith, runs-left s rings steps is)
 -- of a task that can run, has done its phase, and does its next action: two are taken, for the action and for a processor that it may leave
 -- idle
 pub act-takes : (kinds : List TaskKind) (now seed task : ℕ) (drawn : List ℕ) (ls : List ProcessorState) (c : TaskProgress)
-    → now < 2 ^ 48 → list_any takes_time (kind_actions kinds c.kind) ≡ true
+    → now ≤ LATEST → list_any takes_time (kind_actions kinds c.kind) ≡ true
     → ((action : Action) → next_action kinds c ≡ Some action → is_action (length kinds) action ≡ true)
     → ((number : ℕ) → next_action kinds c ≡ Some (Wake number) → c.woken < kind_count kinds number) → c.task_state ≡ Runnable
     → c.got ≡ c.due → uncounted now ls task ≡ 0 → (action : Option Action) → next_action kinds c ≡ action

@@ -1,5 +1,5 @@
 -- A task that falls asleep while a simulation goes well blocks, unless memory runs out, and no switch goes astray then.
-use Rattle.std.proofs.Common.{◌≡◌, ℕ, ◌-◌, ◌<◌, ◌≤◌, ◌^◌, inl, inr, List, [], length, Option, Some, None, sym, subst, ap, ◌∙◌, arith}
+use Rattle.std.proofs.Common.{◌≡◌, ℕ, ◌-◌, ◌<◌, ◌≤◌, inl, inr, List, [], length, Option, Some, None, sym, subst, ap, ◌∙◌, arith}
 use Rattle.std.specs.Prelude.{slice_get}
 use Rattle.std.specs.Option.{option_map_or}
 use Rattle.std.proofs.lemmas.Option.{none-some, same_Some, slice_get_within}
@@ -27,6 +27,7 @@ use Rattle.bq_simulate.proofs.CallLemmas.{calls_fail_for_memory}
 use Rattle.bq_simulate.proofs.MeetAgreeLemmas.{block_agrees, world_of}
 use Rattle.bq_simulate.proofs.SoundKindLemmas.{sound_times}
 use Rattle.bq_simulate.proofs.StraySwitchLemmas.{CanSwitch, can_switch_sized, next_counted, no_stray_switch}
+use Rattle.bq_disc.specs.declared.clock.TheConstants.{LATEST}
 
 -- what runs at a processor is read where that is there
 runs_at_one : (ls : List ProcessorState) (processor task : ℕ)
@@ -48,7 +49,7 @@ alone_by_homes a processor homes other task here there =
     sym two.home ∙ ap (λ (c : TaskProgress). c.home) (same_Some two.progress one.progress (sym two.there ∙ one.there)) ∙ one.home
 
 -- the instant can be counted
-asleep_early : (w : Workload) (now processor : ℕ) (s : Simulation) → FallsAsleep w now processor s → now < 2 ^ 48
+asleep_early : (w : Workload) (now processor : ℕ) (s : Simulation) → FallsAsleep w now processor s → now ≤ LATEST
 asleep_early w now processor s h = omega (arith, h.until, (sound_times w h.sound).duration)
 
 -- the processor is one of the machine

@@ -1,5 +1,5 @@
 -- A phase that ends next while a simulation goes well has got all that it takes, and its task finds all that its next action takes.
-use Rattle.std.proofs.Common.{◌≡◌, ℕ, ◌+◌, ◌-◌, ◌<◌, ◌^◌, inl, inr, true, false, List, [], ◌∷◌, length, Option, Some, None, refl, sym, subst, ap, ◌∙◌, arith}
+use Rattle.std.proofs.Common.{◌≡◌, ℕ, ◌+◌, ◌-◌, ◌<◌, ◌≤◌, inl, inr, true, false, List, [], ◌∷◌, length, Option, Some, None, refl, sym, subst, ap, ◌∙◌, arith}
 use Rattle.std.specs.Prelude.{◌⊎◌, option_and_then, slice_get}
 use Rattle.std.specs.Option.{option_map_or}
 use Rattle.std.proofs.lemmas.Bool.{eq-eqb, ltb-true, true≢false}
@@ -38,6 +38,7 @@ use Rattle.bq_simulate.proofs.StandingLemmas.{AllStand, charged_keeps, else_of, 
 use Rattle.bq_simulate.proofs.StraySwitchLemmas.{no_stray_charge}
 use Rattle.bq_simulate.proofs.TimeKeptLemmas.{charged_tasks}
 use Rattle.bq_simulate.proofs.TimeLemmas.{until_is}
+use Rattle.bq_disc.specs.declared.clock.TheConstants.{LATEST}
 
 -- The end of a phase
 
@@ -52,7 +53,7 @@ pub record EndsNow (now processor : ℕ) (a : Accounts) : Type 0 where
   pub done : progress.got + (now - state.since) ≡ progress.due
 
 -- the end of a phase that comes at an instant at which nothing is past
-ends_now : (end now processor : ℕ) (a : Accounts) → end < 2 ^ 48 → IsOnTime now a → comes_at end a (End processor) ≡ Some now
+ends_now : (end now processor : ℕ) (a : Accounts) → end ≤ LATEST → IsOnTime now a → comes_at end a (End processor) ≡ Some now
     → EndsNow now processor a
 ends_now end now processor a early h comes = elim (some_or_none (slice_get a.by_processor processor)) [
   | inl none ↦ absurd (none-some now (sym (ap (λ (o : Option ProcessorState). option_and_then (phase_ends_at end a.by_task) o) none) ∙ comes))

@@ -1,5 +1,5 @@
 -- Each thing that is met takes one at least of what may still come at its instant.
-use Rattle.std.proofs.Common.{◌≡◌, ℕ, ◌+◌, ◌-◌, ◌*◌, ◌<◌, ◌≤◌, ◌^◌, inl, inr, Bool, true, false, List, [], ◌∷◌, length, Option, Some, None, refl, sym, subst, ap, ◌∙◌, arith}
+use Rattle.std.proofs.Common.{◌≡◌, ℕ, ◌+◌, ◌-◌, ◌*◌, ◌≤◌, inl, inr, Bool, true, false, List, [], ◌∷◌, length, Option, Some, None, refl, sym, subst, ap, ◌∙◌, arith}
 use Rattle.std.specs.Prelude.{◌==◌, Ok, if◌then◌else◌, nat_le, option_and_then, slice_get}
 use Rattle.std.specs.List.{list_any}
 use Rattle.std.specs.Option.{option_map_or}
@@ -59,6 +59,7 @@ use Rattle.bq_simulate.proofs.SoundKindLemmas.{IsSoundKind, sound_kind, sound_ti
 use Rattle.bq_simulate.proofs.StandingLemmas.{AllStand, charged_keeps, standing_of_places}
 use Rattle.bq_simulate.proofs.TakenLemmas.{current_id}
 use Rattle.bq_simulate.proofs.TimeKeptLemmas.{run_of, tasks_run_alone}
+use Rattle.bq_disc.specs.declared.clock.TheConstants.{LATEST}
 
 -- where nothing is done no more is left
 nothing-left : (kinds : List TaskKind) (seed : ℕ) (periods : Periods) (d e : Driver) (b c : Book) (now : ℕ)
@@ -363,7 +364,7 @@ none-uncounted now processor task a l at runs since alone =
 
 -- the end of a phase takes one at least of what may still come
 end-takes : (w : Workload) (d e : Driver) (b c : Book) (processor now : ℕ) (deeds : List Deed) (reported : Reported)
-    → first_flaw w ≡ None → now < 2 ^ 48 → DeedsMeet (due.End processor) now deeds → DeedsLeadIn w d b deeds reported e c
+    → first_flaw w ≡ None → now ≤ LATEST → DeedsMeet (due.End processor) now deeds → DeedsLeadIn w d b deeds reported e c
     → IsKept w.tasks.items now d b
     → steps_left_at w.tasks.items now c.accounts + 1 ≤ steps_left_at w.tasks.items now b.accounts
 end-takes w d e b c processor now deeds reported sound early (task, action, aim, more, is, follow) leads h =

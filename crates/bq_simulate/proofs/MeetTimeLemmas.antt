@@ -1,5 +1,5 @@
 -- Nothing is past after a thing that is met.
-use Rattle.std.proofs.Common.{◌≡◌, ◌≢◌, ℕ, ◌+◌, ◌-◌, ◌<◌, ◌≤◌, ◌^◌, inl, inr, false, List, [], ◌∷◌, length, Option, Some, None, refl, sym, subst, ap, ◌∙◌, arith}
+use Rattle.std.proofs.Common.{◌≡◌, ◌≢◌, ℕ, ◌+◌, ◌-◌, ◌≤◌, inl, inr, false, List, [], ◌∷◌, length, Option, Some, None, refl, sym, subst, ap, ◌∙◌, arith}
 use Rattle.std.specs.Prelude.{if◌then◌else◌, slice_get}
 use Rattle.std.specs.Option.{option_map_or}
 use Rattle.std.proofs.lemmas.Bool.{cases_eq, true≢false}
@@ -29,6 +29,7 @@ use Rattle.bq_simulate.specs.Steps.{AreJustEvents, AreWake, FollowsAction, Deeds
 use Rattle.bq_simulate.proofs.AccountLemmas.{charged_there, read_kept}
 use Rattle.bq_simulate.proofs.MeetAgreeLemmas.{advanced_state, agrees_charged, agrees_further, agrees_processor, meetings_agree, runs_away, sleeps_if_woken, woken_one_home, woken_one_state, world_of}
 use Rattle.bq_simulate.proofs.TimeKeptLemmas.{beaten_kept, carried, charged_on_time, looked_kept, processors_changed, run_of, switched_kept, tasks_changed, tasks_run_alone}
+use Rattle.bq_disc.specs.declared.clock.TheConstants.{LATEST}
 
 -- accounts that are equal
 same_accounts : (now : ℕ) (a b : Accounts) → b ≡ a → IsOnTime now a → IsOnTime now b
@@ -213,7 +214,7 @@ acted_got (Some (Wake kind)) kinds length now c = refl
 
 -- a task that falls asleep by its action has a timer that is not past
 acted_timer : (action : Option Action) (kinds : List TaskKind) (length now : ℕ) (c : TaskProgress)
-    → now < 2 ^ 48 → (c.task_state ≡ Asleep → ⊥) → (acted kinds action length now c).task_state ≡ Asleep
+    → now ≤ LATEST → (c.task_state ≡ Asleep → ⊥) → (acted kinds action length now c).task_state ≡ Asleep
     → now ≤ (acted kinds action length now c).timer
 acted_timer None kinds length now c early runs asleep = cc
 acted_timer (Some (Run asked)) kinds length now c early runs asleep = absurd (runs (sym (advanced_state (action_count kinds c) c) ∙ asleep))
@@ -309,7 +310,7 @@ follow_time (Some (Wake kind)) (Some other) kinds seed periods d e a b f process
 -- a task whose phase has ended takes up what it does next
 pub taken_up_on_time : (action : Option Action) (kinds : List TaskKind) (w : World) (was : Accounts)
     (processor task length now : ℕ) (c : TaskProgress)
-    → now < 2 ^ 48 → AgreesWith w was → IsPhaseDone (accounts_charged processor now was) processor task c → IsOnTime now was
+    → now ≤ LATEST → AgreesWith w was → IsPhaseDone (accounts_charged processor now was) processor task c → IsOnTime now was
     → IsOnTime now (of_task (λ _. acted kinds action length now c) task (accounts_charged processor now was))
 taken_up_on_time action kinds w was processor task length now c early h done time =
     let a : Accounts = accounts_charged processor now was in
@@ -337,7 +338,7 @@ taken_up_on_time action kinds w was processor task length now c early h done tim
 -- nothing is past after the end of a phase is met, if nothing was before
 end_time : (kinds : List TaskKind) (seed : ℕ) (periods : Periods) (d e : Driver) (b c : Book) (processor now : ℕ)
     (deeds : List Deed) (reported : Reported)
-    → 1 ≤ periods.tick → now < 2 ^ 48 → DeedsMeet (due.End processor) now deeds → DeedsLead kinds seed periods d b deeds reported e c
+    → 1 ≤ periods.tick → now ≤ LATEST → DeedsMeet (due.End processor) now deeds → DeedsLead kinds seed periods d b deeds reported e c
     → BookAgrees d b → BookAgrees e c → IsOnTime now b.accounts
     → IsOnTime now c.accounts
 end_time kinds seed periods d e b c processor now deeds reported some early (task, action, aim, more, is, follow)

@@ -1,5 +1,5 @@
 -- What a workload has that can be followed: the times of its machine, and of each of its kinds.
-use Rattle.std.proofs.Common.{◌≡◌, ℕ, zero, suc, ◌+◌, ◌<◌, ◌≤◌, ◌^◌, Bool, true, false, List, [], ◌∷◌, ◌++◌, length, Option, Some, None, refl, sym, subst, ap, arith, get_or}
+use Rattle.std.proofs.Common.{◌≡◌, ℕ, zero, suc, ◌+◌, ◌<◌, ◌≤◌, Bool, true, false, List, [], ◌∷◌, ◌++◌, length, Option, Some, None, refl, sym, subst, ap, arith, get_or}
 use Rattle.std.specs.Prelude.{◌&&◌, nat_le, slice_get}
 use Rattle.std.specs.List.{list_any}
 use Rattle.std.specs.Option.{option_map_or}
@@ -17,6 +17,7 @@ use Rattle.bq_workload.specs.Kinds.{kind_count, tasks_in}
 use Rattle.bq_workload.specs.Lengths.{is_long, longest, takes_time}
 use Rattle.bq_workload.specs.Soundness.{allows_one, first_flaw, flaws_of_actions, flaws_of_count, flaws_of_doing, flaws_of_kind, flaws_of_kinds, flaws_of_machine, has_name, has_numbers, has_times, is_action, unless}
 use Rattle.bq_simulate.proofs.AdmissionTakenLemmas.{numbers_of}
+use Rattle.bq_disc.specs.declared.clock.TheConstants.{LATEST}
 
 -- where two parts together have no flaw, neither has one
 parts_sound : (xs ys : List Unsound) → slice_get (xs ++ ys) 0 ≡ None → (slice_get xs 0 ≡ None) × (slice_get ys 0 ≡ None)
@@ -148,9 +149,9 @@ sound_count w number sound low = one w.tasks.items refl
 pub record HasTimes (machine : Setup) : Type 0 where
   pub tick : 1 ≤ machine.tick
   pub balance : 1 ≤ machine.balance
-  pub duration : machine.duration < 2 ^ 48
-  pub tick_counted : machine.tick < 2 ^ 48
-  pub balance_counted : machine.balance < 2 ^ 48
+  pub duration : machine.duration ≤ LATEST
+  pub tick_counted : machine.tick ≤ LATEST
+  pub balance_counted : machine.balance ≤ LATEST
 
 -- a machine whose times pass the test has times that can be counted
 times_of : (machine : Setup) → has_times machine ≡ true → HasTimes machine

@@ -1,5 +1,5 @@
 -- No switch goes astray while all is kept: what ran at a processor ran within its phase, and what is to run there rests until then.
-use Rattle.std.proofs.Common.{◌≡◌, ◌≢◌, ℕ, ◌+◌, ◌-◌, ◌/◌, ◌<◌, ◌≤◌, ◌^◌, inl, inr, Bool, true, false, List, length, Option, Some, None, refl, sym, subst, ap, ◌∙◌, arith}
+use Rattle.std.proofs.Common.{◌≡◌, ◌≢◌, ℕ, ◌+◌, ◌-◌, ◌/◌, ◌<◌, ◌≤◌, inl, inr, Bool, true, false, List, length, Option, Some, None, refl, sym, subst, ap, ◌∙◌, arith}
 use Rattle.std.specs.Prelude.{slice_get, if◌then◌else◌}
 use Rattle.std.specs.Option.{option_map_or}
 use Rattle.std.proofs.lemmas.Bool.{cases_eq, eq-eqb, true≢false}
@@ -20,9 +20,10 @@ use Rattle.bq_simulate.proofs.AccountLemmas.{Reads, charged_there, reads_charged
 use Rattle.bq_simulate.proofs.MeetTimeLemmas.{sized_alone, sized_on_time}
 use Rattle.bq_simulate.proofs.MirrorLemmas.{state_there}
 use Rattle.bq_simulate.proofs.TimeKeptLemmas.{charged_on_time, runner_low, taken_over_tasks, task_there, tasks_run_alone}
+use Rattle.bq_disc.specs.declared.clock.TheConstants.{LATEST}
 
 -- a time between two things that has a next multiple: 64 bits count it
-pub next_counted : (between now : ℕ) → 1 ≤ between → between < 2 ^ 48 → now < 2 ^ 48 → HasNoNext between now → ⊥
+pub next_counted : (between now : ℕ) → 1 ≤ between → between ≤ LATEST → now ≤ LATEST → HasNoNext between now → ⊥
 next_counted between now some short early (inl none) = omega (arith, some, none)
 next_counted between now some short early (inr late) =
     omega (arith, late, short, early, add-mul (now / between) 1 between, div-add-mod' now between)

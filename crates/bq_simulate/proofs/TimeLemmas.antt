@@ -1,7 +1,7 @@
 -- Accounts of which nothing is past.
-use Rattle.std.proofs.Common.{◌≡◌, ℕ, ◌<◌, ◌≤◌, ◌^◌, inl, inr, Bool, true, false, cond, Option, Some, None, refl, sym, subst, ap, ◌∙◌, arith}
-use Rattle.std.specs.Prelude.{◌&&◌, nat_le, nat_lt, option_and_then, slice_get}
-use Rattle.std.proofs.lemmas.Bool.{and_from, and_parts, cases_lt, le-leb, leb-true, lt-ltb}
+use Rattle.std.proofs.Common.{◌≡◌, ℕ, ◌≤◌, inl, inr, Bool, true, false, cond, Option, Some, None, refl, sym, subst, ap, ◌∙◌, arith}
+use Rattle.std.specs.Prelude.{◌&&◌, nat_le, option_and_then, slice_get}
+use Rattle.std.proofs.lemmas.Bool.{and_from, and_parts, cases_lt, le-leb, leb-true}
 use Rattle.std.proofs.lemmas.Option.{none-some}
 use Rattle.bq_workload.specs.declared.due.Due.{Due}
 use Rattle.bq_workload.specs.declared.due.Due.TheVariants.{End, Wake, Tick, Look}
@@ -16,27 +16,28 @@ use Rattle.bq_workload.proofs.AgreeLemmas.{some_or_none}
 use Rattle.bq_workload.proofs.AgreedLemmas.{end-of, look-of, look_at, tick-of, tick_at}
 use Rattle.bq_simulate.specs.Agreement.{IsOnTime, ProcessorIsOnTime, RunsOnTime}
 use Rattle.bq_simulate.specs.AgreementLaws.{NothingIsMissed}
+use Rattle.bq_disc.specs.declared.clock.TheConstants.{LATEST}
 
 -- what comes until the end comes when it is to, and no later than the end
-until_by_test : (b : Bool) (end x time : ℕ) → (nat_le x end && nat_lt x (2 ^ 48)) ≡ b → cond b (Some x) None ≡ Some time
+until_by_test : (b : Bool) (end x time : ℕ) → (nat_le x end && nat_le x LATEST) ≡ b → cond b (Some x) None ≡ Some time
     → (x ≡ time) × (time ≤ end)
 until_by_test true end x time test h =
     let same : x ≡ time = cc in
-    (same, subst (λ n. n ≤ end) same (leb-true x end (and_parts (nat_le x end) (nat_lt x (2 ^ 48)) test).0))
+    (same, subst (λ n. n ≤ end) same (leb-true x end (and_parts (nat_le x end) (nat_le x LATEST) test).0))
 until_by_test false end x time test h = cc
 
 -- what comes until the end comes when it says, and no later than the end
 pub until_is : (end x time : ℕ) → until end x ≡ Some time → (x ≡ time) × (time ≤ end)
-until_is end x time h = until_by_test (nat_le x end && nat_lt x (2 ^ 48)) end x time refl h
+until_is end x time h = until_by_test (nat_le x end && nat_le x LATEST) end x time refl h
 
 -- what is to come no later than the end comes
-until_some : (end x : ℕ) → x ≤ end → x < 2 ^ 48 → until end x ≡ Some x
+until_some : (end x : ℕ) → x ≤ end → x ≤ LATEST → until end x ≡ Some x
 until_some end x low early =
-    ap (λ b. cond b (Some x) None) (and_from (nat_le x end) (nat_lt x (2 ^ 48)) (le-leb x end low) (lt-ltb x (2 ^ 48) early))
+    ap (λ b. cond b (Some x) None) (and_from (nat_le x end) (nat_le x LATEST) (le-leb x end low) (le-leb x LATEST early))
 
 -- what comes next is no later than another thing that is to come
 next_first : (end time x : ℕ) (a : Accounts) (due other : Due)
-    → IsNextDue end a due time → time ≤ end → end < 2 ^ 48 → comes_at end a other ≡ until end x → time ≤ x
+    → IsNextDue end a due time → time ≤ end → end ≤ LATEST → comes_at end a other ≡ until end x → time ≤ x
 next_first end time x a due other next low early is = elim (cases_lt x time) [
   | inl before ↦ absurd (next.first other x (is ∙ until_some end x (omega arith) (omega arith)) (inl before))
   | inr later ↦ later
@@ -64,7 +65,7 @@ pub record Comes (now time end : ℕ) : Type 0 where
   pub until : time ≤ end
 
 -- what comes is not past and comes by the end, be it the end of a phase, a wake, a tick or a look:
-end_comes : (end now time processor : ℕ) (a : Accounts) → end < 2 ^ 48 → IsOnTime now a
+end_comes : (end now time processor : ℕ) (a : Accounts) → end ≤ LATEST → IsOnTime now a
     → comes_at end a (End processor) ≡ Some time
     → Comes now time end
 end_comes end now time processor a early h comes = elim (some_or_none (slice_get a.by_processor processor)) [
@@ -129,7 +130,7 @@ look_comes end now time processor a h comes = elim (some_or_none (slice_get a.by
 ]
 
 -- nothing comes that is past
-comes_later : (end now time : ℕ) (a : Accounts) (due : Due) → end < 2 ^ 48 → IsOnTime now a → comes_at end a due ≡ Some time
+comes_later : (end now time : ℕ) (a : Accounts) (due : Due) → end ≤ LATEST → IsOnTime now a → comes_at end a due ≡ Some time
     → Comes now time end
 comes_later end now time a (End processor) early h comes = end_comes end now time processor a early h comes
 comes_later end now time a (Wake task) early h comes = wake_comes end now time task a h comes
@@ -181,13 +182,13 @@ nothing_is_missed end now time a due early h next =
     (c.later, c.until, on_time_later end now time a c.later first h)
 
 -- what does not come until the end comes no earlier than the end
-not_until : (end x : ℕ) → end < 2 ^ 48 → until end x ≡ None → end ≤ x
+not_until : (end x : ℕ) → end ≤ LATEST → until end x ≡ None → end ≤ x
 not_until end x early none = elim (cases_lt x end) [
   | inl before ↦ absurd (none-some x (sym none ∙ until_some end x (omega (arith, before)) (omega (arith, before, early))))
   | inr later ↦ later
 ]
 
 -- nothing is past at the end where nothing comes any more
-pub on_time_to_end : (end now : ℕ) (a : Accounts) → end < 2 ^ 48 → now ≤ end → NothingComes end a → IsOnTime now a → IsOnTime end a
+pub on_time_to_end : (end now : ℕ) (a : Accounts) → end ≤ LATEST → now ≤ end → NothingComes end a → IsOnTime now a → IsOnTime end a
 on_time_to_end end now a early later none h =
     on_time_later end now end a later (λ other x is. not_until end x early (sym is ∙ none other)) h

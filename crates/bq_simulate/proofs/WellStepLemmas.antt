@@ -42,9 +42,10 @@ use Rattle.bq_simulate.proofs.SoundKindLemmas.{sound_times}
 use Rattle.bq_simulate.proofs.StraySwitchLemmas.{CanSwitch, can_switch, can_switch_sized, next_counted, no_stray_switch, runs_elsewhere}
 use Rattle.bq_simulate.proofs.TakenLemmas.{pulled_from_some}
 use Rattle.bq_simulate.proofs.WakeTakenLemmas.{present_there, sleeper_stands, wakes_are_taken}
+use Rattle.bq_disc.specs.declared.clock.TheConstants.{LATEST}
 
 -- an instant of a simulation that goes well can be read
-pub well_early : (w : Workload) (now : ℕ) (s : Simulation) → SimulationGoesWell w now s → now < 2 ^ 48
+pub well_early : (w : Workload) (now : ℕ) (s : Simulation) → SimulationGoesWell w now s → now ≤ LATEST
 well_early w now s h = omega (arith, h.until, (sound_times w h.sound).duration)
 
 -- the machine of a simulation that goes well can be given the instant

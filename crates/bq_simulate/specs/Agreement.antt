@@ -1,6 +1,6 @@
 -- The accounts of a simulation agree with its machine's world and with its clock. As long as they do, the world refuses no event
 -- that the loop gives it, no reading falls, and nothing that comes due is missed.
-use Rattle.std.specs.Prelude.{◌≡◌, ◌≢◌, ℕ, ◌+◌, ◌-◌, ◌<◌, ◌≤◌, ◌^◌, Bool, true, false, List, [], Option, Some, None, length, slice_get}
+use Rattle.std.specs.Prelude.{◌≡◌, ◌≢◌, ℕ, ◌+◌, ◌-◌, ◌<◌, ◌≤◌, Bool, true, false, List, [], Option, Some, None, length, slice_get}
 use Rattle.std.specs.Option.{option_map_or}
 use Rattle.bq_disc.specs.declared.limits.TheConstants.{TASKS}
 use Rattle.bq_disc.specs.Tasks.{id_of}
@@ -19,6 +19,7 @@ use Rattle.bq_workload.specs.declared.progress.TaskState.{TaskState}
 use Rattle.bq_workload.specs.declared.progress.TaskState.TheVariants.{Asleep, Waiting, Runnable, Over}
 use Rattle.bq_workload.specs.Accounts.{Accounts}
 use Rattle.bq_workload.specs.Dues.{size_at}
+use Rattle.bq_disc.specs.declared.clock.TheConstants.{LATEST}
 
 -- the state of a task by the accounts; none of a task that has not begun
 abbrev pub state_at : List TaskProgress → ℕ → Option TaskState
@@ -115,7 +116,7 @@ pub record IsOnTime (now : ℕ) (a : Accounts) : Type 0 where
 -- a reading can be given to a clock: it is no less than the last that any was given, and no later than the latest
 abbrev pub IsReadable : ℕ → Option ℕ → Type 0
 IsReadable last None = Unit {0}
-IsReadable last (Some now) = (last ≤ now) × (now < 2 ^ 48)
+IsReadable last (Some now) = (last ≤ now) × (now ≤ LATEST)
 
 -- an answer is of its event's kind
 abbrev pub IsAnswerTo : Event → Reply → Type 0

@@ -1,6 +1,6 @@
 -- The laws of agreement. If the accounts agree with a world, it takes each event that the loop gives it; and the accounts after
 -- the answer agree with the world after the event.
-use Rattle.std.specs.Prelude.{◌≡◌, ◌≢◌, ℕ, ◌<◌, ◌≤◌, ◌^◌, true, false, List, [], ◌∷◌, ◌++◌, Option, None, Some, Ok, length, slice_get}
+use Rattle.std.specs.Prelude.{◌≡◌, ◌≢◌, ℕ, ◌<◌, ◌≤◌, true, false, List, [], ◌∷◌, ◌++◌, Option, None, Some, Ok, length, slice_get}
 use Rattle.bq_disc.specs.Discipline.{Discipline}
 use Rattle.bq_bpf.specs.declared.board.CounterCall.{CounterCall}
 use Rattle.bq_parts.specs.declared.event.Event.{Event}
@@ -30,6 +30,7 @@ use Rattle.bq_simulate.specs.Deeds.{Book, Deed, DeedsLead, after_event, is_busy}
 use Rattle.bq_simulate.specs.Drives.{IsDriveFault, IsWakeFault, PlacesWoken, count_entered, placed_at, reading_of_event}
 use Rattle.bq_simulate.specs.Simulations.{SimulationBegins, IsSimulation}
 use Rattle.bq_simulate.specs.Steps.{IsAdmissible, DeedsMeet}
+use Rattle.bq_disc.specs.declared.clock.TheConstants.{LATEST}
 
 -- an event is not refused; and in each way to do it, its answer and the world that it leaves have this property
 pub record IsTaken (d : Discipline) (w : World) (event : Event) (Leaves : Reply → World → Type 0) : Type 0 where
@@ -144,7 +145,7 @@ AnswersFit = (d : Discipline) (w v : World) (event : Event) (calls : List Counte
 
 -- What comes next is not past, and nothing is past then.
 abbrev pub NothingIsMissed : Type 0
-NothingIsMissed = (end now time : ℕ) (a : Accounts) (due : Due) → end < 2 ^ 48 → IsOnTime now a → IsNextDue end a due time → (now ≤ time) × (time ≤ end) × IsOnTime time a
+NothingIsMissed = (end now time : ℕ) (a : Accounts) (due : Due) → end ≤ LATEST → IsOnTime now a → IsNextDue end a due time → (now ≤ time) × (time ≤ end) × IsOnTime time a
 
 -- the task that runs at a processor by the accounts, if one does, runs nowhere else
 abbrev pub RunsAlone : Accounts → ℕ → Type 0
@@ -166,5 +167,5 @@ TasksRunAlone = (w : World) (a : Accounts) (processor : ℕ) → AgreesWith w a 
 abbrev pub MeetingsAreOnTime : Type 0
 MeetingsAreOnTime =
     (kinds : List TaskKind) (seed : ℕ) (periods : Periods) (d e : Driver) (b c : Book) (due : Due) (now : ℕ) (deeds : List Deed) (reported : Reported) →
-    1 ≤ periods.tick → 1 ≤ periods.balance → now < 2 ^ 48 → DeedsMeet due now deeds →
+    1 ≤ periods.tick → 1 ≤ periods.balance → now ≤ LATEST → DeedsMeet due now deeds →
     DeedsLead kinds seed periods d b deeds reported e c → BookAgrees d b → IsOnTime now b.accounts → IsOnTime now c.accounts

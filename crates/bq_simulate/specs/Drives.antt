@@ -1,5 +1,5 @@
 -- A machine driven event by event, and what is reported of it.
-use Rattle.std.specs.Prelude.{◌≡◌, ℕ, ◌<◌, ◌≤◌, ◌^◌, List, [], ◌∷◌, ◌++◌, Option, Some, None, Ok, ◌⊎◌}
+use Rattle.std.specs.Prelude.{◌≡◌, ℕ, ◌<◌, ◌≤◌, List, [], ◌∷◌, ◌++◌, Option, Some, None, Ok, ◌⊎◌}
 use Rattle.bq_parts.specs.declared.event.Event.{Event}
 use Rattle.bq_parts.specs.declared.event.Event.TheVariants.{BeginWake, EndWake, Drain, Tick, Block, Pull}
 use Rattle.bq_parts.specs.declared.reply.Reply.{Reply}
@@ -14,6 +14,7 @@ use Rattle.bq_parts.specs.Refusals.{refusal}
 use Rattle.bq_simulate.specs.declared.drive_fault.DriveFault.{DriveFault}
 use Rattle.bq_simulate.specs.declared.drive_fault.DriveFault.TheVariants.{OutOfMemory, Reading, Refused}
 use Rattle.bq_simulate.specs.declared.driver.Driver.{Driver}
+use Rattle.bq_disc.specs.declared.clock.TheConstants.{LATEST}
 
 -- the reading that comes with an event
 abbrev pub reading_of_event : Event → Option ℕ
@@ -27,12 +28,12 @@ reading_of_event event = None
 -- a reading is no less than the last that any clock was given, and counts as it is
 abbrev pub ReadingRises : ℕ → Option ℕ → ℕ → Type 0
 ReadingRises last None next = next ≡ last
-ReadingRises last (Some now) next = (last ≤ now) × (now < 2 ^ 48) × (next ≡ now)
+ReadingRises last (Some now) next = (last ≤ now) × (now ≤ LATEST) × (next ≡ now)
 
 -- a reading is less than the last that any clock was given, or too late to count
 abbrev pub ReadingFalls : ℕ → Option ℕ → Type 0
 ReadingFalls last None = ⊥
-ReadingFalls last (Some now) = (now < last) ⊎ (2 ^ 48 ≤ now)
+ReadingFalls last (Some now) = (now < last) ⊎ (LATEST < now)
 
 -- a machine to which nothing has happened: the first line of a trace
 pub record Starts (discipline : DisciplineName) (size : ProcessorCount) (reported : Reported) (d : Driver) : Type 0 where

@@ -1,5 +1,5 @@
 -- What a tree of tasks keeps true, with the key of its first task and its table of times.
-use Rattle.std.specs.Prelude.{◌≡◌, ℕ, ◌<◌, ◌≤◌, ◌^◌, List, Option, None, Some, IfSome, find, length, slice_index, if◌then◌else◌}
+use Rattle.std.specs.Prelude.{◌≡◌, ℕ, ◌<◌, ◌≤◌, List, Option, None, Some, IfSome, find, length, slice_index, if◌then◌else◌}
 use Rattle.std.specs.Option.{option_map}
 use Rattle.std.specs.List.{AllByRecursion}
 use Rattle.std.specs.declared.boxed.Box.{Box}
@@ -10,6 +10,7 @@ use Rattle.bq_disc.specs.Queues.{HasDistinctIds, HasSmallIds, follows, key_of}
 use Rattle.bq_disc.specs.Rising.{IsRising}
 use Rattle.bq_tree.specs.Trees.{Knowledge, IsTreeBehind, in_order_behind}
 use Rattle.bq_disc.specs.declared.node.Node.{Node}
+use Rattle.bq_weights.specs.declared.TheConstants.{GREATEST_V}
 
 -- the table has each task's v at the task's id, for ids below TASKS
 abbrev pub Knows : List ℕ → List Task → Type 0
@@ -32,5 +33,5 @@ pub record IsSound (knowledge : Knowledge) (root : Option (Box Node Global)) (le
   pub distinct : HasDistinctIds (in_order_behind root)
   pub small : HasSmallIds (in_order_behind root)
   pub leads : least ≡ first_key (in_order_behind root)
-  pub high : IfSome least (λ key. key.0 ≤ 2 ^ 62)
+  pub high : IfSome least (λ key. key.0 ≤ GREATEST_V)
   pub knows : Knows times (in_order_behind root)

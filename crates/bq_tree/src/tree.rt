@@ -5,6 +5,7 @@ ghost use Rattle.bq_disc.specs.Tasks.{Task, find_task};
 ghost use Rattle.bq_disc.specs.Chains.{task_of, IsLone};
 ghost use Rattle.bq_tree.specs.Trees.{in_order_behind};
 ghost use Rattle.bq_tree.specs.Sound.{Knows, first_key, lesser_of};
+ghost use Rattle.bq_weights.specs.declared.TheConstants.{GREATEST_V};
 
 use crate::edits::{insert_into, pop_least, take_from};
 use crate::summary::Summary;
@@ -141,7 +142,7 @@ fn zeros<const N: usize>() -> [u64; N] {
 /// The lesser of a key and `least`; the key if there is no `least`.
 fn lesser(key: (u64, u16), least: Option<(u64, u16)>) -> (u64, u16)
     ensures value { result ≡ lesser_of key least }
-    ensures high { key.0 ≤ 2 ^ 62 → IfSome least (λ k. k.0 ≤ 2 ^ 62) → result.0 ≤ 2 ^ 62 }
+    ensures high { key.0 ≤ GREATEST_V → IfSome least (λ k. k.0 ≤ GREATEST_V) → result.0 ≤ GREATEST_V }
 {
     let Some(least) = least else { return key };
     if key.0 < least.0 || (key.0 == least.0 && key.1 < least.1) {
@@ -163,7 +164,7 @@ fn has_id(key: Option<(u64, u16)>, id: u16) -> bool
 /// The key of a tree's first task.
 fn first_key(root: &Link) -> Option<(u64, u16)>
     ensures key { result ≡ first_key (in_order_behind root.now) }
-    ensures high { IfSome result (λ key. key.0 ≤ 2 ^ 62) }
+    ensures high { IfSome result (λ key. key.0 ≤ GREATEST_V) }
 {
     match walks::least(root) {
         None => None,

@@ -11,6 +11,7 @@ ghost use Rattle.bq_tree.specs.Trees.{in_order, IsTree, IsTreeBehind, in_order_b
 ghost use Rattle.bq_tree.specs.Taking.{FindsTask};
 ghost use Rattle.bq_tree.specs.Knowing.{knows_sums};
 ghost use Rattle.bq_disc.specs.Dues.{first_due, sooner_of};
+ghost use Rattle.bq_disc.specs.declared.movable.TheConstants.{MOST_NAMED};
 
 use crate::edits::{is_after, is_at};
 use crate::summary::due;
@@ -128,7 +129,7 @@ pub(crate) fn earliest_from(
 pub(crate) fn movable_into(link: &Link, processor: u8, found: &mut Movable)
     requires processor { processor < PROCESSORS }
     requires few { found.old.count + length (in_order_behind link.now) ≤ 2 ^ 20 }
-    requires fits { length found.old.first.items ≤ 8 }
+    requires fits { length found.old.first.items ≤ MOST_NAMED }
     ensures { AddsMovable processor (in_order_behind link.now) found.old found.new }
 {
     let Some(node) = link else {

@@ -1,7 +1,7 @@
 //! The table of weights and worked rows of virtual time, with values from outside this program.
 
 use crate::asserting::{is_number, is_true};
-use bq_weights::{GREATEST, advance, distance, shift, shift_within, vdelta, weight};
+use bq_weights::{GREATEST_V, advance, distance, shift, shift_within, vdelta, weight};
 
 /// The weights of the nice values from -20 to 19, as Linux has them in sched_prio_to_weight (kernel/sched/core.c).
 static TABLE: [u32; 40] = [
@@ -57,13 +57,13 @@ fn virtual_time_is_held_within_its_ends(rt: HostRuntime) {
         281_479_271_677_951,
     );
     is_number(&rt, shift(4_294_967_296, -4_294_967_297), 0);
-    is_number(&rt, shift(GREATEST, 1), GREATEST);
+    is_number(&rt, shift(GREATEST_V, 1), GREATEST_V);
     is_number(
         &rt,
         shift_within(4_294_967_296, -10_000_000, 9_170_149),
         4_285_797_147,
     );
-    is_true(&rt, distance(GREATEST, 0) == 1 << 30);
-    is_true(&rt, distance(0, GREATEST) == -(1 << 30));
+    is_true(&rt, distance(GREATEST_V, 0) == 1 << 30);
+    is_true(&rt, distance(0, GREATEST_V) == -(1 << 30));
     is_true(&rt, distance(4_294_967_296, 4_294_967_299) == -3);
 }

@@ -5,7 +5,7 @@ ghost use Rattle.std.specs.Prelude.{◌≡◌, ◌+◌, ◌-◌, ◌*◌, ◌/�
 ghost use Rattle.bq_weights.specs.VirtualTime.{is_nice, weights, weight_of, IsWeight, vdelta_of, time_of, advance_of, shift_of, held_within, distance_from_mark};
 
 /// The greatest virtual time.
-pub const GREATEST: u64 = 1 << 62;
+pub const GREATEST_V: u64 = 1 << 62;
 
 /// The greatest distance from the mark that is remembered of a task that leaves, on either side.
 pub const FARTHEST: u64 = 1 << 30;
@@ -90,33 +90,33 @@ pub fn advance(v: u64, d: u64, w: u32) -> u64
     requires short { d < 2 ^ 48 }
     requires weight { IsWeight w }
     ensures value { result ≡ advance_of v d w }
-    ensures high { result ≤ 2 ^ 62 }
+    ensures high { result ≤ GREATEST_V }
 {
-    v.saturating_add(vdelta(d, w)).min(GREATEST)
+    v.saturating_add(vdelta(d, w)).min(GREATEST_V)
 }
 
 /// The mark moved by `rel`, held from 0 to the greatest virtual time.
 pub fn shift(mark: u64, rel: i64) -> u64
     ensures value { result ≡ shift_of mark rel }
-    ensures high { result ≤ 2 ^ 62 }
+    ensures high { result ≤ GREATEST_V }
 {
     if rel >= 0 {
-        mark.saturating_add(rel as u64).min(GREATEST)
+        mark.saturating_add(rel as u64).min(GREATEST_V)
     } else {
-        mark.saturating_sub(rel.unsigned_abs()).min(GREATEST)
+        mark.saturating_sub(rel.unsigned_abs()).min(GREATEST_V)
     }
 }
 
 /// The mark moved by `rel`, which is first held within `most` on either side.
 pub fn shift_within(mark: u64, rel: i64, most: u64) -> u64
     ensures value { result ≡ shift_of mark (held_within most rel) }
-    ensures high { result ≤ 2 ^ 62 }
+    ensures high { result ≤ GREATEST_V }
 {
     if rel >= 0 {
-        mark.saturating_add((rel as u64).min(most)).min(GREATEST)
+        mark.saturating_add((rel as u64).min(most)).min(GREATEST_V)
     } else {
         mark.saturating_sub(rel.unsigned_abs().min(most))
-            .min(GREATEST)
+            .min(GREATEST_V)
     }
 }
 

@@ -3,6 +3,7 @@ ghost use Rattle.std.specs.Prelude.{◌≡◌, ◌<◌, ◌≤◌, length, take,
 ghost use Rattle.bq_disc.specs.declared.limits.TheConstants.{TASKS};
 ghost use Rattle.bq_disc.specs.Movable.{movable_to, ids};
 ghost use Rattle.bq_why.specs.Pulls.{Sees, own_pull_of};
+ghost use Rattle.bq_disc.specs.declared.movable.TheConstants.{MOST_NAMED};
 
 use crate::presence::{present, waiting};
 use bq_disc::limits::PROCESSORS;
@@ -100,7 +101,7 @@ fn movable(queue: &[Entity], processor: u8) -> Movable
     requires inside { processor < PROCESSORS }
     requires few { length queue.now ≤ TASKS }
     ensures count { result.count ≡ length (movable_to processor queue.now) }
-    ensures first { result.first.items ≡ take 8 (ids (movable_to processor queue.now)) }
+    ensures first { result.first.items ≡ take MOST_NAMED (ids (movable_to processor queue.now)) }
 {
     let mut found = Movable::new();
     let mut at = queue.len();

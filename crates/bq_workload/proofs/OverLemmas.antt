@@ -1,6 +1,6 @@
 -- Where nothing comes any more.
-use Rattle.std.proofs.Common.{◌≡◌, ℕ, zero, suc, ◌+◌, ◌<◌, ◌≤◌, ◌^◌, Bool, true, false, inl, inr, List, [], ◌∷◌, Option, Some, None, refl, sym, ap, ◌∙◌, arith}
-use Rattle.std.specs.Prelude.{◌&&◌, nat_le, nat_lt, option_and_then, slice_get, if◌then◌else◌}
+use Rattle.std.proofs.Common.{◌≡◌, ℕ, zero, suc, ◌+◌, ◌<◌, ◌≤◌, Bool, true, false, inl, inr, List, [], ◌∷◌, Option, Some, None, refl, sym, ap, ◌∙◌, arith}
+use Rattle.std.specs.Prelude.{◌&&◌, nat_le, option_and_then, slice_get, if◌then◌else◌}
 use Rattle.std.specs.List.{list_all}
 use Rattle.std.specs.Option.{option_map_or}
 use Rattle.std.proofs.lemmas.Bool.{and_cases, and_from, and_left, and_parts, and_right, cases_Bool, cases_lt, le-leb, leb-true, lt-ltb}
@@ -16,6 +16,7 @@ use Rattle.bq_workload.specs.Dues.{phase_end, until}
 use Rattle.bq_workload.specs.Next.{HasHome, HaveHomes, NothingComes, rings_at}
 use Rattle.bq_workload.proofs.AgreeLemmas.{some_or_none}
 use Rattle.bq_workload.proofs.AgreedLemmas.{end-of, look-of, tick-of}
+use Rattle.bq_disc.specs.declared.clock.TheConstants.{LATEST}
 
 -- what each passes, all pass
 all-from : {A : Type 0} (p : A → Bool) (xs : List A) → ((k : ℕ) (x : A) → slice_get xs k ≡ Some x → p x ≡ true) → list_all p xs ≡ true
@@ -30,17 +31,17 @@ each-of {A} p (y ∷ ys) all zero x at =
 each-of p (y ∷ ys) all (suc k) x at = let parts = and_parts (p y) (list_all p ys) all in each-of p ys parts.1 k x at
 
 -- what is not seen until the end comes after it
-until-past : (end time : ℕ) → end < 2 ^ 48 → until end time ≡ None → end < time
+until-past : (end time : ℕ) → end ≤ LATEST → until end time ≡ None → end < time
 until-past end time low none = elim (cases_lt end time) [
   | inl past ↦ past
   | inr early ↦
       absurd (none-some time (sym none
       ∙ ap (λ (b : Bool). if b then Some time else None)
-      (and_from (nat_le time end) (nat_lt time (2 ^ 48)) (le-leb time end early) (lt-ltb time (2 ^ 48) (omega (arith, low, early))))))
+      (and_from (nat_le time end) (nat_le time LATEST) (le-leb time end early) (le-leb time LATEST (omega (arith, low, early))))))
 ]
 
 -- a timer that does not ring until the end rings past it
-rings-past : (end timer : ℕ) (task_state : TaskState) → end < 2 ^ 48 → rings_at end task_state timer ≡ None
+rings-past : (end timer : ℕ) (task_state : TaskState) → end ≤ LATEST → rings_at end task_state timer ≡ None
     → rings_past end task_state timer ≡ true
 rings-past end timer Asleep low none = lt-ltb end timer (until-past end timer low none)
 rings-past end timer Waiting low none = refl
@@ -48,7 +49,7 @@ rings-past end timer Runnable low none = refl
 rings-past end timer Over low none = refl
 
 -- a time that does not come until the end is past it
-past-of : (end : ℕ) (time : Option ℕ) → end < 2 ^ 48 → option_and_then (until end) time ≡ None → is_past end time ≡ true
+past-of : (end : ℕ) (time : Option ℕ) → end ≤ LATEST → option_and_then (until end) time ≡ None → is_past end time ≡ true
 past-of end None low none = refl
 past-of end (Some time) low none = lt-ltb end time (until-past end time low none)
 
@@ -61,7 +62,7 @@ keeps-none end (c ∷ cs) some = elim (and_cases (keeps_phase c) (list_all keeps
 ]
 
 -- a phase that does not end until the end lacks more than it can get until then
-runs-of : (end k : ℕ) (a : Accounts) (l : ProcessorState) → end < 2 ^ 48 → HaveHomes a → NothingComes end a
+runs-of : (end k : ℕ) (a : Accounts) (l : ProcessorState) → end ≤ LATEST → HaveHomes a → NothingComes end a
     → ((task : ℕ) (c : TaskProgress) → slice_get a.by_task task ≡ Some c → keeps_phase c ≡ true)
     → slice_get a.by_processor k ≡ Some l
     → runs_past end a.by_task l ≡ true
@@ -81,7 +82,7 @@ runs-of end k a l low homes none keeps at =
     ]
 
 -- where by the accounts nothing comes any more it is over exactly when no task has run past its phase
-pub over-where-none : (end : ℕ) (a : Accounts) → end < 2 ^ 48 → HaveHomes a → NothingComes end a
+pub over-where-none : (end : ℕ) (a : Accounts) → end ≤ LATEST → HaveHomes a → NothingComes end a
     → is_over end a ≡ list_all keeps_phase a.by_task
 over-where-none end a low homes none =
     let cs = a.by_task in

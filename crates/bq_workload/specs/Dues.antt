@@ -9,6 +9,7 @@ use Rattle.bq_workload.specs.declared.due.Due.{Due}
 use Rattle.bq_workload.specs.declared.due.Due.TheVariants.{End, Wake, Tick, Look}
 use Rattle.bq_workload.specs.declared.processor_state.ProcessorState.{ProcessorState}
 use Rattle.bq_workload.specs.Minima.{at_place, never_due, due_number, ChangesOnly}
+use Rattle.bq_disc.specs.declared.clock.TheConstants.{LATEST}
 
 -- the number of a processor is below the most that a machine has, and that of a task below the most tasks
 abbrev pub IsDue : Due → Type 0
@@ -39,7 +40,7 @@ next_multiple between now = (now / between + 1) * between
 
 -- what would come after the end, or after the latest instant, never does
 abbrev pub until : ℕ → ℕ → Option ℕ
-until end time = if nat_le time end && nat_lt time (2 ^ 48) then Some time else None
+until end time = if nat_le time end && nat_le time LATEST then Some time else None
 
 -- this thing is due at a time, or never if that is after the end; nothing else changes in the event queue
 pub record IsPlanned (end : ℕ) (due : Due) (time : ℕ) (old new : List ℕ) : Type 0 where

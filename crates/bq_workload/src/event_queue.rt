@@ -1,6 +1,7 @@
 //! When each thing is due.
-ghost use Rattle.std.specs.Prelude.{◌≡◌, ℕ, ◌+◌, ◌/◌, ◌<◌, ◌≤◌, ◌^◌, length, IfOk, IfSome, IfNone, slice_index};
+ghost use Rattle.std.specs.Prelude.{◌≡◌, ℕ, ◌+◌, ◌/◌, ◌<◌, ◌≤◌, length, IfOk, IfSome, IfNone, slice_index};
 ghost use Rattle.bq_workload.specs.Minima.{due_number, at_place, AreNever, ChangesOnly, IsFirstDue, HasMinima, HasOtherMinima};
+ghost use Rattle.bq_disc.specs.declared.clock.TheConstants.{LATEST};
 
 use crate::due::PLACES;
 use std::alloc::{AllocError, Global};
@@ -53,7 +54,7 @@ impl EventQueue {
     /// What is at a place is due at this time from now on, or never.
     pub fn set(&mut self, place: u16, time: Option<u64>)
         requires place { place < PLACES }
-        requires time { IfSome time (λ t. t < 2 ^ 48) }
+        requires time { IfSome time (λ t. t ≤ LATEST) }
         ensures due { at_place self.new place ≡ due_number place time }
         ensures others { ChangesOnly place self.old self.new }
     {
@@ -83,7 +84,7 @@ impl EventQueue {
 /// The number that orders a place in the tree, by its time; `never_due` without one.
 fn number_of(place: u16, time: Option<u64>) -> u64
     requires place { place < LEAVES }
-    requires time { IfSome time (λ t. t < 2 ^ 48) }
+    requires time { IfSome time (λ t. t ≤ LATEST) }
     ensures { result ≡ due_number place time }
 {
     match time {

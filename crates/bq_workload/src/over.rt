@@ -1,9 +1,10 @@
 //! Whether a simulation is over.
-ghost use Rattle.std.specs.Prelude.{◌≡◌, ◌<◌, ◌^◌};
+ghost use Rattle.std.specs.Prelude.{◌≡◌, ◌≤◌};
 ghost use Rattle.std.specs.List.{list_all};
 ghost use Rattle.bq_workload.specs.TaskProgress.{keeps_phase, keeps_time};
 ghost use Rattle.bq_workload.specs.Accounts.{accounts_of, is_over, rests_past, runs_past};
 ghost use Rattle.bq_workload.specs.Next.{HaveHomes, NothingComes};
+ghost use Rattle.bq_disc.specs.declared.clock.TheConstants.{LATEST};
 
 use crate::processor_state::ProcessorState;
 use crate::roster::Roster;
@@ -14,7 +15,7 @@ impl Roster {
     /// task has run past its phase.
     pub fn is_over(&self, end: u64) -> bool
         ensures over { result ≡ is_over end (accounts_of self.now) }
-        ensures none { end < 2 ^ 48 → HaveHomes (accounts_of self.now) → NothingComes end (accounts_of self.now) → result ≡ list_all keeps_phase self.now.by_task.items }
+        ensures none { end ≤ LATEST → HaveHomes (accounts_of self.now) → NothingComes end (accounts_of self.now) → result ≡ list_all keeps_phase self.now.by_task.items }
     {
         self.all_keep_time(end) && self.all_run_past(end) && self.all_rest_past(end)
     }

@@ -1,5 +1,5 @@
 //! All tasks and processors of a simulation.
-ghost use Rattle.std.specs.Prelude.{◌≡◌, ◌<◌, ◌≤◌, ◌^◌, ◌++◌, [], ◌∷◌, min, None, Some, IfOk, IfErr, IfSome, MatchOption, OnOk, option_and_then, slice_get, slice_set, length};
+ghost use Rattle.std.specs.Prelude.{◌≡◌, ◌<◌, ◌≤◌, ◌++◌, [], ◌∷◌, min, None, Some, IfOk, IfErr, IfSome, MatchOption, OnOk, option_and_then, slice_get, slice_set, length};
 ghost use Rattle.bq_workload.specs.Accounts.{accounts_of, first_look, opening_accounts};
 ghost use Rattle.bq_workload.specs.Dues.{AreLooks, IsDropped, IsDue, IsPlanned, due_place, until};
 ghost use Rattle.bq_workload.specs.Minima.{AreNever, IsFirstDue};
@@ -131,7 +131,7 @@ impl Roster {
 /// A time that comes neither after the end nor after the latest instant.
 fn until(end: u64, time: u64) -> Option<u64>
     ensures seen { result ≡ until end time }
-    ensures early { IfSome result (λ t. t < 2 ^ 48) }
+    ensures early { IfSome result (λ t. t ≤ LATEST) }
 {
     let is_seen = time <= end && time <= LATEST;
     is_seen.then_some(time)
@@ -140,7 +140,7 @@ fn until(end: u64, time: u64) -> Option<u64>
 /// Each of this many processors looks for a task to pull then, if ever.
 fn plan_looks(event_queue: &mut EventQueue, processors: u8, time: Option<u64>)
     requires few { processors ≤ PROCESSORS }
-    requires early { IfSome time (λ t. t < 2 ^ 48) }
+    requires early { IfSome time (λ t. t ≤ LATEST) }
     requires never { AreNever event_queue.old }
     ensures { AreLooks processors time event_queue.new }
 {
