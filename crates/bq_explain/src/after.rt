@@ -1,4 +1,5 @@
 //! What is known of registers and stack after an instruction, on the way to one of the slots that follow it.
+ghost use Rattle.bq_bpf.specs.declared.shape.TheConstants.{MAPS};
 ghost use Rattle.std.specs.Prelude.{◌<◌, ◌≤◌, ◌^◌, IsTrue, length};
 ghost use Rattle.bq_bpf.specs.Steps.{IsCounterCall};
 ghost use Rattle.bq_transfer.specs.Ready.{IsTransferred, WritesBelowFrame};
@@ -45,7 +46,7 @@ fn comes(
     is_next: bool,
 ) -> bool
     requires context { context < 2 ^ 16 }
-    requires few { length shapes.now ≤ 8 }
+    requires few { length shapes.now ≤ MAPS }
 {
     match insn {
         Insn::Exit => false,
@@ -144,7 +145,7 @@ fn passes(state: &mut AbstractState, test: Test, is_taken: bool) -> bool {
 /// Whether a run may pass an instruction that only the next one can follow; then the state is the one after it.
 fn goes_on(state: &mut AbstractState, shapes: &[MapShape], context: usize, insn: Insn) -> bool
     requires context { context < 2 ^ 16 }
-    requires few { length shapes.now ≤ 8 }
+    requires few { length shapes.now ≤ MAPS }
 {
     if is_counter_call(insn) {
         return ask(state, insn).is_ok();

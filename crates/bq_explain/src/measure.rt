@@ -1,4 +1,5 @@
 //! What a policy uses of the things that a keeper may limit.
+ghost use Rattle.bq_bpf.specs.declared.shape.TheConstants.{MAPS};
 ghost use Rattle.std.specs.Prelude.{◌≡◌, ◌≤◌, count_by, length, sum_by};
 ghost use Rattle.bq_bpf.specs.Instructions.{asks_counter};
 ghost use Rattle.bq_explain.specs.Measures.{bytes_in_map, measure_of, measure_word};
@@ -56,7 +57,7 @@ impl Measure {
 
 /// The bytes of the values of these maps.
 fn value_bytes(shapes: &[MapShape]) -> u64
-    requires { length shapes.now ≤ 8 }
+    requires { length shapes.now ≤ MAPS }
     ensures { result ≡ sum_by bytes_in_map shapes.now }
 {
     let mut sum: u64 = 0;

@@ -1,4 +1,5 @@
 //! A copy of a program, written from its end: what is written is never moved, so that a jump's distance is known at once.
+ghost use Rattle.bq_bpf.specs.declared.shape.TheConstants.{MAPS};
 ghost use Rattle.std.specs.Prelude.{◌≡◌, ◌<◌, ◌≤◌, ◌+◌, ◌-◌, ◌++◌, [], ◌∷◌, ℕ, List, length, replicate, OnOk, IfErr, IfNone, IfSome, Option, Some, None};
 ghost use Rattle.bq_insn.specs.Slots.{slots_of};
 ghost use Rattle.bq_insn.specs.declared.Insn.{Insn};
@@ -41,7 +42,7 @@ impl Backward {
     ) -> Result<(), Disorder>
         requires built { IsBuilt maps old.now self.old.slots.items self.old.origins.items }
         requires good { AreGood old.now }
-        requires few { maps ≤ 8 }
+        requires few { maps ≤ MAPS }
         requires inside { from < 4096 }
         requires may { MayBePut old.now self.old.slots.items self.old.origins.items from insn distance }
         ensures ok { OnOk result (IsLengthened maps old.now self.old.slots.items self.old.origins.items self.new.slots.items self.new.origins.items from) }
@@ -92,7 +93,7 @@ impl Backward {
 
 /// The copy of an instruction, in a program of this many maps; if it jumps, it has this distance.
 fn copied(insn: Insn, distance: i16, maps: usize) -> Insn
-    requires { maps ≤ 8 }
+    requires { maps ≤ MAPS }
     ensures { result ≡ copied maps insn distance }
 {
     match insn {
@@ -120,7 +121,7 @@ fn copied(insn: Insn, distance: i16, maps: usize) -> Insn
 
 /// The copy of a wide number: the reference of a map, if it is one.
 fn wide_copy(dst: u8, value: u64, maps: usize) -> Insn
-    requires { maps ≤ 8 }
+    requires { maps ≤ MAPS }
     ensures { result ≡ wide_copy (is_reference maps value) dst value }
 {
     if value >= REFERENCE && value < REFERENCE + maps as u64 {

@@ -1,4 +1,5 @@
 //! A program whose jumps go forward, with only what control comes to, each instruction once.
+ghost use Rattle.bq_bpf.specs.declared.shape.TheConstants.{MAPS};
 ghost use Rattle.std.specs.Prelude.{◌≡◌, ◌<◌, ◌≤◌, ◌+◌, List, Option, length, true, slice_index, IfOk, IfErr, OnOk};
 ghost use Rattle.bq_insn.specs.declared.Insn.{Insn};
 ghost use Rattle.bq_insn.specs.Laws.{AllFit};
@@ -25,7 +26,7 @@ pub(crate) fn kept(alloc: Global, old: &[Option<Insn>], maps: usize) -> Result<O
     requires linked { IsLinked old.now }
     requires forward { AllForward old.now }
     requires first { IsStart old.now 0 }
-    requires few { maps ≤ 8 }
+    requires few { maps ≤ MAPS }
     ensures copy { IfOk result (IsOrderedCopy maps old.now) }
     ensures long { IfOk result (λ kept. length kept.origins.items ≡ length (spread kept.insns.items)) }
     ensures reached { IfOk result (λ kept. AllReached (spread kept.insns.items)) }
@@ -63,7 +64,7 @@ impl Keeping {
     ) -> Result<(), Disorder>
         requires linked { IsLinked old.now }
         requires forward { AllForward old.now }
-        requires few { maps ≤ 8 }
+        requires few { maps ≤ MAPS }
         requires found { AreReached old.now reached.now }
         requires inside { slot < length old.now }
         requires keeping { IsKeeping maps old.now reached.now (slot + 1) self.old.copy.slots.items self.old.copy.origins.items self.old.places.items }

@@ -1,4 +1,5 @@
 //! A program in an order in which every jump goes forward.
+ghost use Rattle.bq_bpf.specs.declared.shape.TheConstants.{MAPS};
 ghost use Rattle.std.specs.Prelude.{◌≡◌, ◌≤◌, ◌<◌, ℕ, List, Option, length, true, filter_map, reverse, OnOk, IfOk, IfErr};
 ghost use Rattle.bq_insn.specs.declared.Insn.{Insn};
 ghost use Rattle.bq_insn.specs.Slots.{spread};
@@ -45,7 +46,7 @@ pub struct Ordered {
 pub fn order(alloc: Global, insns: &[Insn], maps: usize) -> Result<Ordered, Disorder>
     requires whole { is_well_formed insns.now ≡ true }
     requires numbers { AllFit insns.now }
-    requires few { maps ≤ 8 }
+    requires few { maps ≤ MAPS }
     ensures copy { IfOk result (IsOrderedCopy maps (spread insns.now)) }
     ensures well_formed { IfOk result (λ ordered. is_well_formed ordered.insns.items ≡ true) }
     ensures numbers { IfOk result (λ ordered. AllFit ordered.insns.items) }
@@ -59,7 +60,7 @@ pub fn order(alloc: Global, insns: &[Insn], maps: usize) -> Result<Ordered, Diso
 /// Puts a program, given by its slots, in order as `order` does.
 fn order_slots(alloc: Global, slots: &[Option<Insn>], maps: usize) -> Result<Ordered, Disorder>
     requires program { (insns : List Insn) × (slots.now ≡ spread insns) × (is_well_formed insns ≡ true) × AllFit insns }
-    requires few { maps ≤ 8 }
+    requires few { maps ≤ MAPS }
     ensures copy { IfOk result (IsOrderedCopy maps slots.now) }
     ensures well_formed { IfOk result (λ ordered. is_well_formed ordered.insns.items ≡ true) }
     ensures numbers { IfOk result (λ ordered. AllFit ordered.insns.items) }
@@ -95,7 +96,7 @@ fn kept_of(alloc: Global, searched: &Ordered) -> Result<Ordered, Disorder>
 fn searched(alloc: Global, slots: &[Option<Insn>], maps: usize) -> Result<Ordered, Disorder>
     requires linked { IsLinked slots.now }
     requires first { IsStart slots.now 0 }
-    requires few { maps ≤ 8 }
+    requires few { maps ≤ MAPS }
     requires back { AllForward slots.now → ⊥ }
     ensures copy { IfOk result (IsOrderedCopy maps slots.now) }
     ensures well_formed { IfOk result (λ ordered. is_well_formed ordered.insns.items ≡ true) }
@@ -114,7 +115,7 @@ impl Search {
     /// front, because control comes from it to all others.
     fn run(&mut self, old: &[Option<Insn>], maps: usize, landings: &[bool]) -> Result<(), Disorder>
         requires linked { IsLinked old.now }
-        requires few { maps ≤ 8 }
+        requires few { maps ≤ MAPS }
         requires first { IsStart old.now 0 }
         requires done { IsDoneWith maps old.now self.old }
         requires within { IsSearchWithin old.now self.old 0 }
@@ -140,7 +141,7 @@ impl Search {
     ) -> Result<(), Disorder>
         requires inside { slot < length old.now }
         requires linked { IsLinked old.now }
-        requires few { maps ≤ 8 }
+        requires few { maps ≤ MAPS }
         requires done { IsDoneWith maps old.now self.old }
         requires within { IsSearchWithin old.now self.old 0 }
         requires landings { AreLandings old.now landings.now }

@@ -1,4 +1,5 @@
 //! Putting an instruction in front, once everything to which control may go from it is in place.
+ghost use Rattle.bq_bpf.specs.declared.shape.TheConstants.{MAPS};
 ghost use Rattle.std.specs.Prelude.{◌≡◌, ◌<◌, ◌≤◌, ◌+◌, ◌-◌, ℕ, List, Option, length, OnOk, IfErr, IfSome, IfNone, Some, None};
 ghost use Rattle.bq_insn.specs.declared.Insn.{Insn};
 ghost use Rattle.bq_insn.specs.Slots.{slots_of};
@@ -59,7 +60,7 @@ impl Backward {
         requires built { IsBuilt maps old.now self.old.slots.items self.old.origins.items }
         requires linked { IsLinked old.now }
         requires known { AreCopyPlaces self.old.slots.items self.old.origins.items places.now }
-        requires few { maps ≤ 8 }
+        requires few { maps ≤ MAPS }
         requires here { instruction_at old.now slot ≡ Some insn }
         requires targets { AreTargets old.now slot insn targets }
         requires ready { IsSlotReady old.now places.now slot }
@@ -85,7 +86,7 @@ impl Backward {
         requires linked { IsLinked old.now }
         requires known { AreCopyPlaces self.old.slots.items self.old.origins.items places.now }
         requires closed { AreClosed old.now places.now }
-        requires few { maps ≤ 8 }
+        requires few { maps ≤ MAPS }
         requires start { IsStart old.now slot }
         requires ready { IsSlotReady old.now places.now slot }
         ensures ok { OnOk result (IsLengthened maps old.now self.old.slots.items self.old.origins.items self.new.slots.items self.new.origins.items slot) }
@@ -145,7 +146,7 @@ impl Backward {
         requires built { IsBuilt maps old.now self.old.slots.items self.old.origins.items }
         requires linked { IsLinked old.now }
         requires known { AreCopyPlaces self.old.slots.items self.old.origins.items places.now }
-        requires few { maps ≤ 8 }
+        requires few { maps ≤ MAPS }
         requires inside { slot < length old.now }
         requires ready { IsStart old.now slot → IsSlotReady old.now places.now slot }
         requires front { (next : ℕ) → IsNextSlot old.now slot next → IsFront self.old.slots.items self.old.origins.items next }

@@ -1,5 +1,6 @@
 //! A depth-first search: it places a slot after all slots to which control may go from it. If that cannot be, there is a loop,
 //! and the search finds it.
+ghost use Rattle.bq_bpf.specs.declared.shape.TheConstants.{MAPS};
 ghost use Rattle.std.specs.Prelude.{◌≡◌, ◌<◌, ◌≤◌, ◌+◌, ◌⊎◌, ℕ, true, false, Option, length, OnOk, IfOk, IfErr, IfSome, IfNone, Some, None, slice_index_or};
 ghost use Rattle.bq_insn.specs.declared.Insn.{Insn};
 ghost use Rattle.bq_verify.specs.Edges.{IsEdge, IsStart};
@@ -47,7 +48,7 @@ impl Search {
     /// Puts the slot in place, and before it all slots to which control may go from it.
     pub fn visit(&mut self, old: &[Option<Insn>], maps: usize, root: usize) -> Result<(), Disorder>
         requires linked { IsLinked old.now }
-        requires few { maps ≤ 8 }
+        requires few { maps ≤ MAPS }
         requires start { IsStart old.now root }
         requires reached { Path old.now 0 root }
         requires root { IsLanding old.now root ⊎ (root ≡ 0) }
@@ -71,7 +72,7 @@ impl Search {
     /// One slot later: a slot to which control may go is begun, or the last one that was begun is put in place.
     fn advance(&mut self, old: &[Option<Insn>], maps: usize, slot: usize) -> Result<(), Disorder>
         requires linked { IsLinked old.now }
-        requires few { maps ≤ 8 }
+        requires few { maps ≤ MAPS }
         requires at { IsAt maps old.now self.old }
         requires within { IsSearchWithin old.now self.old (run_slots old.now 0) }
         requires top { IsTop self.old.stack.items slot }
@@ -159,7 +160,7 @@ impl Search {
     /// Puts the last slot that was begun in place.
     fn leave(&mut self, old: &[Option<Insn>], maps: usize, slot: usize) -> Result<(), Disorder>
         requires linked { IsLinked old.now }
-        requires few { maps ≤ 8 }
+        requires few { maps ≤ MAPS }
         requires at { IsAt maps old.now self.old }
         requires within { IsSearchWithin old.now self.old (run_slots old.now 0) }
         requires top { IsTop self.old.stack.items slot }

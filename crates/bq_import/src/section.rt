@@ -1,4 +1,5 @@
 //! From the bytes of a compiled program to instructions in order.
+ghost use Rattle.bq_bpf.specs.declared.shape.TheConstants.{MAPS};
 ghost use Rattle.std.specs.Prelude.{◌≡◌, ◌≤◌, true, false, IfOk, IfErr, IfSome, IfNone};
 ghost use Rattle.std.specs.List.{list_any};
 ghost use Rattle.bq_insn.specs.Faults.{IsDecodeFault};
@@ -55,7 +56,7 @@ impl From<Disorder> for ImportFault {
 /// It is a copy (see `order`) of what the bytes spell. An `lddw` of a number that a move could load is refused as an
 /// address: a compiler writes it only for what a linker fills in. What is refused has the fault that is named.
 pub fn import(alloc: Global, bytes: &[u8], maps: usize) -> Result<Ordered, ImportFault>
-    requires few { maps ≤ 8 }
+    requires few { maps ≤ MAPS }
     ensures imports { IfOk result (λ ordered. Imports maps bytes.now ordered.insns.items ordered.origins.items) }
     ensures fault { IfErr result (IsImportFault bytes.now) }
 {

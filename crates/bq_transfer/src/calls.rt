@@ -30,7 +30,7 @@ pub fn map_ref(
     dst: u8,
     index: i32,
 ) -> Result<(), Obligation>
-    requires few { length shapes.now ≤ 8 }
+    requires few { length shapes.now ≤ MAPS }
     requires below { dst < 10 }
     ensures transfers { OnOk result ((context_length : ℕ) → Transfers shapes.now context_length (Insn.MapRef dst index) state.old state.new) }
     ensures obligations { IfErr result (λ obligation. MayBeUnproven obligation (Insn.MapRef dst index)) }
@@ -52,7 +52,7 @@ pub fn map_ref(
 
 /// The number of the map with this index; `None` if there is no such map.
 fn map_number(shapes: &[MapShape], index: i32) -> Option<u8>
-    requires { length shapes.now ≤ 8 }
+    requires { length shapes.now ≤ MAPS }
     ensures index { IfSome result (λ m. index ≡ pos m) }
     ensures there { IfSome result (λ m. m < length shapes.now) }
     ensures found { (m : ℕ) → index ≡ pos m → m < length shapes.now → result ≡ Some m }

@@ -1,5 +1,6 @@
 //! Instructions from which control goes on to the next one.
 
+ghost use Rattle.bq_bpf.specs.declared.shape.TheConstants.{MAPS};
 ghost use Rattle.std.specs.Prelude.{IsOk, ◌<◌, ◌≤◌, ◌^◌, OnOk, length, IfErr};
 ghost use Rattle.bq_transfer.specs.Obligations.{MayBeUnproven};
 ghost use Rattle.bq_transfer.specs.Transfers.{Transfers, IsStraight};
@@ -26,7 +27,7 @@ pub fn transfer(
     insn: Insn,
 ) -> Result<(), Obligation>
     requires context { context < 2 ^ 16 }
-    requires few { length shapes.now ≤ 8 }
+    requires few { length shapes.now ≤ MAPS }
     requires transferred { IsTransferred insn }
     requires below { WritesBelowFrame insn }
     ensures straight { OnOk result (IsStraight insn) }
