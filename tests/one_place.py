@@ -117,7 +117,7 @@ SHUT = [
 # What may stand in two places, and why.
 ALLOWED = {
     'the same lemma: bq_comparison/proofs/RangeLemmas.antt: flat_map-range_more, bq_policy_run/proofs/ChangeLemmas.antt: flat_map-range_more': 'a fact of the library\'s ranges, which it has no lemma for; neither crate stands on the other',
-    'how many slots or bytes a program has at most, in words: bq_complain/src/number_reason.rt': 'the least offset and distance of 16 bits, -32768',
+    'how many slots or bytes a program has at most, in words: bq_asm_faults/src/number_reason.rt': 'the least offset and distance of 16 bits, -32768',
     'how many slots a program has at most: bq_object/src/line_table.rt': 'the crate reads objects and stands on no crate of instructions, so its own bound on lines says the number once more',
     'the weight of nice value 0: bq_object/src/line_table.rt': 'the line of a line record is its number divided by 1024, which only happens to be that weight',
     'which helpers are of counters: bq_interp/src/counters.rt': 'asked at each call of a run, of the number alone, by a function that stands in its loop',

@@ -7,7 +7,7 @@ ghost use Rattle.bq_cli.specs.declared.asm.AsmWords.{AsmWords as Words};
 use crate::command::Command;
 use crate::dispatch::perform_from;
 use crate::policy_words::{format_in, hook_in, most_bytes, policy_words};
-use bq_complain::complaint;
+use bq_asm_faults::complaint;
 use bq_console::status::BAD_INPUT;
 use bq_console::{Lines, WordsFault, report_out_of_memory, whole_input, written};
 use bq_policy_check::{AsmRefusal, PolicyWords, asm_note, asm_refusal, options_complaint};

@@ -1,6 +1,6 @@
 //! The files that `simulate` reads: its workload, and the policies at its hooks.
 
-use bq_complain::{TextKind, kind_of_text};
+use bq_asm_faults::{TextKind, kind_of_text};
 use bq_console::status::{BAD_INPUT, BAD_WORDS};
 use bq_console::{
     Name, file_named, name_of, read_input, report_out_of_memory, report_unread, whole_input,

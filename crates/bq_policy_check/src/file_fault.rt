@@ -9,7 +9,7 @@ use crate::image_words::{image_words, spelling_words};
 use crate::json_parts::{number_value, put_text};
 use crate::maps_words::maps_words;
 use bq_asm::AssemblyCause;
-use bq_complain::{assembly_words, with_nul_shown};
+use bq_asm_faults::{assembly_words, with_nul_shown};
 use bq_console::{Lines, Name, Quoted};
 use bq_hooks::hook::{NO_HOOK, NO_VERSION};
 use bq_insn::fault::DecodeCause;

@@ -3,8 +3,8 @@ use Rattle.std.specs.Prelude.{codes, string_bytes}
 use Rattle.std.specs.Fmt.{decimal}
 use Rattle.std.proofs.lemmas.Result.{IfOk-weaker}
 use Rattle.bq_insn.specs.Appending.{StartsWith}
-use Rattle.bq_complain.specs.Complaints.{line_words}
-use Rattle.bq_complain.proofs.complaining.line_complaint.Goals as goal
+use Rattle.bq_asm_faults.specs.Complaints.{line_words}
+use Rattle.bq_asm_faults.proofs.complaining.line_complaint.Goals as goal
 
 pub returns-then-number-eq0 : goal.returns-then-number-eq0
 returns-then-number-eq0 c =

@@ -5,7 +5,7 @@ use Rattle.bq_asm.specs.Lines.{lines_of}
 use Rattle.bq_asm.specs.Assembly.{Assembles}
 use Rattle.bq_asm.specs.Faults.{FaultyLines}
 use Rattle.bq_asm.proofs.LawLemmas.{no_program_is_faulty}
-use Rattle.bq_complain.specs.Complaints.{IsAssembly}
+use Rattle.bq_asm_faults.specs.Complaints.{IsAssembly}
 
 -- a text that has a fault does not assemble
 pub faulty_is_none : (text written : List ℕ) (line : ℕ) (cause : AssemblyCause)

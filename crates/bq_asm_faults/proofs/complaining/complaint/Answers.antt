@@ -1,9 +1,9 @@
 use Rattle.std.proofs.Common.{rules, ◌≡◌, ℕ, List, subst}
 use Rattle.bq_asm.specs.Lines.{lines_of}
 use Rattle.bq_asm.specs.Faults.{FaultyLines}
-use Rattle.bq_complain.proofs.ComplaintLemmas.{faulty_is_none}
-use Rattle.bq_complain.proofs.complaining.complaint.Goals.{in-Ok-assemble, in-Err-OutOfMemory, in-Err-At+in_ok-line_complaint-in-Err-At}
-use Rattle.bq_complain.proofs.complaining.complaint.Goals as goal
+use Rattle.bq_asm_faults.proofs.ComplaintLemmas.{faulty_is_none}
+use Rattle.bq_asm_faults.proofs.complaining.complaint.Goals.{in-Ok-assemble, in-Err-OutOfMemory, in-Err-At+in_ok-line_complaint-in-Err-At}
+use Rattle.bq_asm_faults.proofs.complaining.complaint.Goals as goal
 
 pub returns-clause-complains : goal.returns-clause-complains
 returns-clause-complains c =

@@ -2,7 +2,7 @@
 ghost use Rattle.std.specs.Prelude.{IfOk, IfSome, string_bytes};
 ghost use Rattle.std.specs.Str.{IsUtf8};
 ghost use Rattle.bq_insn.specs.Appending.{StartsWith};
-ghost use Rattle.bq_complain.specs.Complaints.{ComplainsOf, NamesLine, line_words};
+ghost use Rattle.bq_asm_faults.specs.Complaints.{ComplainsOf, NamesLine, line_words};
 
 use crate::line_reason::line_reason;
 use crate::text_kind::{TextKind, kind_of_text};
