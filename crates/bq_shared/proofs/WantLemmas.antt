@@ -37,7 +37,7 @@ first_named : (b : Bool) (x e : Refusal) (rest : Option Refusal)
 first_named true x e rest n more h = subst (λ y. y ≢ no.OutOfMemory) (same_Some x e h) n
 first_named false x e rest n more h = more h
 
--- where there is no refusal, there is none for lack of memory
+-- lack of memory is no reason to refuse where nothing is refused
 none_named : (e : Refusal) → None ≡ Some e → e ≢ no.OutOfMemory
 none_named e h = absurd (let no : ⊥ = cc in no)
 
