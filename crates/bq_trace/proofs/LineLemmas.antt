@@ -16,6 +16,7 @@ AnswersAll-append p m q [] ys t u h k =
 AnswersAll-append p m q (x ∷ xs) ys t u h k =
     (h.0, h.1, h.2 ++ u, h.3, AnswersAll-append h.0 m q xs ys h.2 u h.4 k, ap (λ l. l ++ u) h.5 ∙ append_assoc h.1 h.2 u)
 
+-- whether a byte is a line feed
 abbrev is_feed : ℕ → Bool
 is_feed b = eqb b 10
 

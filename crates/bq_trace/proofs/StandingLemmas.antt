@@ -51,10 +51,12 @@ SoFar-none takes s begun piece old h = record {
   taken = refl;
 }
 
+-- lines that are each one line, and one more such line, are each one line
 AllByRecursion-one : (xs : List (List ℕ)) (x : List ℕ) → AllByRecursion IsOneLine xs → IsOneLine x → AllByRecursion IsOneLine (xs ++ x ∷ [])
 AllByRecursion-one [] x h k = (k, tt)
 AllByRecursion-one (y ∷ xs) x h k = (h.0, AllByRecursion-one xs x h.1 k)
 
+-- the text of some lines and one more is the text of the former, then that line and its line feed
 with_feeds-one : (xs : List (List ℕ)) (x more : List ℕ) → with_feeds (xs ++ x ∷ []) ++ more ≡ with_feeds xs ++ (x ++ 10 ∷ more)
 with_feeds-one [] x more = append_assoc (x ++ 10 ∷ []) [] more ∙ append_assoc x (10 ∷ []) more
 with_feeds-one (y ∷ xs) x more =
