@@ -35,7 +35,7 @@ pub start_whole : (l0 l1 l2 l3 o : List (Receipt Record)) (a b d : Receipt Recor
     → l0 ≡ [] → l1 ≡ l0 ++ a ∷ [] → l2 ≡ (l1 ++ b ∷ []) ++ o → l3 ≡ l2 ++ d ∷ [] → l3 ≡ a ∷ b ∷ (o ++ d ∷ [])
 start_whole l0 l1 l2 l3 o a b d e0 e1 e2 e3 = rw (e3, e2, e1, e0) refl
 
--- the receipts of an admission, the two halves of a wake and a drain are those of the beginning of a shift
+-- the receipts of an admission, a wake's begin, its end if there is one, and a drain begin a shift
 pub start_is : (p : ℕ) (l0 l1 l2 l3 : List (Receipt Record)) (a b d : Receipt Record) (o : Option (Receipt Record))
     → l0 ≡ [] → l1 ≡ l0 ++ a ∷ [] → l2 ≡ (l1 ++ b ∷ []) ++ option_to_list o → l3 ≡ l2 ++ d ∷ []
     → a.entry.event ≡ Admit p (pos 0) (2 ^ 64 - 1) 3000000 → b.entry.event ≡ BeginWake p p
