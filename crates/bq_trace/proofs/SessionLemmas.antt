@@ -49,7 +49,7 @@ feeds_none s begun piece w = record {
   part = ([], record { done = []; whole = refl; added = Appends-nil w });
 }
 
--- the last line's answer was written
+-- if the last line's whole answer was written, the session has finished
 pub finishes_all : (s t : TracePosition) (begun answers : List ℕ) (old new : Option (List ℕ))
     → GrowsByPiece [] answers (λ l. AnswersAll s.progress (lines begun) l t.progress) → Appends old new answers
     → Finishes s begun old new t.progress.clean
@@ -62,7 +62,7 @@ finishes_all s t begun answers old new a written =
       added = written;
     }
 
--- a beginning of it was written
+-- if only a beginning of it was written, the session breaks off there
 pub finishes_part : (s t : TracePosition) (begun answers : List ℕ) (old new : Option (List ℕ))
     → GrowsByPiece [] answers (λ l. AnswersAll s.progress (lines begun) l t.progress) → AppendsPart old new answers
     → BreaksOff s begun [] old new
