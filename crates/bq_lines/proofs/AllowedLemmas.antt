@@ -13,7 +13,7 @@ and_true : (a : Bool) → (a && true) ≡ a
 and_true true = refl
 and_true false = refl
 
--- if only the bytes from i on are left to test, with byte i tested only those from i + 1 on are
+-- once byte i is tested, only the bytes from i + 1 on are left to test
 pub all_step : (p : ℕ → Bool) (line : List ℕ) (b : Bool) (i : ℕ) (at : Bool)
     → i < length line → at ≡ p (get_or line i 0) → list_all p line ≡ (b && list_all p (drop i line))
     → list_all p line ≡ ((b && at) && list_all p (drop (i + 1) line))
