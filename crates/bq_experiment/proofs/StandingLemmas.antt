@@ -10,12 +10,13 @@ use Rattle.bq_simulate.specs.Texts.{ByHook}
 use Rattle.bq_simulate.specs.Simulations.{Accepted}
 use Rattle.bq_experiment.specs.Standing.{AddsPolicy, AreOfTheirImages, Standing, image_for}
 
+-- each hook is the same hook as itself
 itself : (hook : Hook) → same_hook hook hook ≡ true
 itself Place = refl
 itself Preempt = refl
 itself Pull = refl
 
--- an image that is there stays
+-- an image that is there stays when one more comes, by cases:
 stays_by : (here : Bool) (image : Option (List ℕ)) (old new : Option (List ℕ)) (bytes : List ℕ)
     → (old ≡ Some bytes → new ≡ Some bytes) → cond here image old ≡ Some bytes
     → cond here image new ≡ Some bytes
@@ -29,7 +30,7 @@ stays ((place, image) ∷ images) more hook bytes there =
     stays_by (same_hook place hook) (Some image) (image_for images hook) (image_for (images ++ more ∷ []) hook)
     bytes (stays images more hook bytes) there
 
--- one that comes to a hook at which none was is there
+-- an image that comes to a hook at which none was is there, by cases:
 comes_by : (here : Bool) (image : List ℕ) (old new : Option (List ℕ)) (bytes : List ℕ)
     → (old ≡ None → new ≡ Some bytes) → cond here (Some image) old ≡ None
     → cond here (Some image) new ≡ Some bytes
@@ -48,6 +49,7 @@ of_image : (image : Option (List ℕ)) (bytes : List ℕ) (policy : Accepted)
     → image ≡ Some bytes → IsLoadedFromImage (Some bytes) policy → IsLoadedFromImage image policy
 of_image image bytes policy is h = subst (λ (i : Option (List ℕ)). IsLoadedFromImage i policy) (sym is) h
 
+-- policies that are those of their images stay so when one more image comes
 stay : (images : List (Hook × List ℕ)) (more : Hook × List ℕ) (policies : List Accepted)
     → AreOfImages (image_for images) policies → AreOfImages (image_for (images ++ more ∷ [])) policies
 stay images more [] h = tt
@@ -57,6 +59,7 @@ stay images more (policy ∷ policies) h =
       stay images more policies h.1,
     )
 
+-- one more policy that is that of its image is one of all that are
 push : (images : ByHook) (policies : List Accepted) (policy : Accepted)
     → AreOfImages images policies → IsLoadedFromImage (images policy.hook) policy
     → AreOfImages images (policies ++ policy ∷ [])
