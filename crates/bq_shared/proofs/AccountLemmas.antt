@@ -75,7 +75,7 @@ module _ {R : Type 0} (calls : R → List CounterCall) where
       ap (λ (y : List CounterCall). calls_of calls x.1 ++ y) (calls_by_more xs c)
       ∙ sym (append_assoc (calls_of calls x.1) (calls_by calls xs) (calls_of calls c.1))
 
-  -- the account of one more seat
+  -- the account of some callers, joined with that of one more seat, is the account of all of them
   pub accounts_more : (cs : List (ℕ × List (Receipt R))) (c : ℕ × List (Receipt R)) (a b : Account)
       → a ≡ account_by calls cs → b ≡ account_of calls c.1
       → joined_accounts a b ≡ account_by calls (cs ++ c ∷ [])

@@ -39,12 +39,12 @@ use Rattle.bq_shared.proofs.ShapeLemmas.{MayCommitHere, moves_none, moves_lobby,
 abbrev pub ones : ℕ → ℕ → ℕ
 ones i mask = 1
 
--- the length is a tally
+-- the length of a list of tasks is a tally in which each counts once
 pub length_is : (xs : List Task) → length xs ≡ tally ones xs
 length_is [] = refl
 length_is (x ∷ xs) = omega (arith, length_is xs)
 
--- it is decided who runs: the size stays
+-- a decision about who runs changes no size
 decided_size : (s : PolicySemantics) (p : Processor) (settled : SettledChoice) → size_of (decided_by s p settled) ≡ size_of p
 decided_size s p settled =
     omega (
@@ -66,7 +66,7 @@ begin_size : (id : ℕ) (loads : List ℕ) (p : Processor) (l : List LobbyEntry)
 begin_size id loads p l (Ok r) q m b = ap size_of b.in_hand
 begin_size id loads p l (Err e) q m b = ap size_of b.1
 
--- a task has left the processor
+-- where a processor has one task fewer, the journal keeps one less for it
 pub kept_less : (w : World) (c : ℕ) (p q : Processor) (k : JournalState)
     → length w.inboxes ≡ length w.processors → journal_state_of w ≡ k → c < count_in w → processor_at w c ≡ p
     → size_of q + 1 ≡ size_of p
@@ -79,7 +79,7 @@ kept_less w c p q k even kw there at e =
     (loads_set w.processors w.inboxes c q even ∙ ap (λ (x : ℕ). set (loads_of w.processors w.inboxes) c x) is)
     ∙ ap (one_less c) kw
 
--- a task has come to the processor
+-- where a processor has one task more, the journal keeps one more for it
 pub kept_more : (w : World) (c : ℕ) (p q : Processor) (k : JournalState)
     → length w.inboxes ≡ length w.processors → journal_state_of w ≡ k → c < count_in w → processor_at w c ≡ p
     → size_of q ≡ size_of p + 1 → load_of p (inbox w c) ≤ 1024

@@ -106,7 +106,7 @@ sums_after_look seats words accounts id i v rule at low fits =
 
 module _ (seats : ℕ) (words : List ℕ) (accounts : List Account) (id : ℕ) (v : Account) (rule : AreSums seats words accounts)
     (at : get_elem? accounts id ≡ some v) where
-  -- the account is cut in two
+  -- an account that is cut in two keeps the sums
   pub cuts : (left right : Account) → left.seats + right.seats ≡ v.seats
       → ((i : ℕ) → sum_of i left.calls + sum_of i right.calls ≡ sum_of i v.calls) → (left.seats ≡ 0 → left.calls ≡ [])
       → (right.seats ≡ 0 → right.calls ≡ [])
@@ -133,15 +133,15 @@ module _ (seats : ℕ) (words : List ℕ) (accounts : List Account) (id : ℕ) (
         rw same (rule.sums i lt);
   }
 
-  -- one seat gets an account
+  -- so does one seat that leaves an account without calls and gets its own
   pub parts : 1 ≤ v.seats → v.calls ≡ [] → AreSums seats words (slice_set accounts id (without_one v) ++ opened 1 ∷ [])
   parts some_seat none = cuts (without_one v) (opened 1) (omega arith) (λ i. omega arith) (λ z. none) (λ z. refl)
 
-  -- the account goes to another seat of the table
+  -- so does an account that goes to another seat of the table
   pub takes : AreSums seats words (slice_set accounts id spent ++ v ∷ [])
   takes = cuts spent v (omega arith) (λ i. omega arith) (λ z. refl) (rule.blank id v at)
 
-  -- two accounts become one
+  -- so do two accounts that become one
   pub joins : (other : ℕ) (w : Account) → ¬ (other ≡ id)
       → get_elem? (slice_set accounts id (joined_accounts v w)) other ≡ some w
       → AreSums seats words (slice_set (slice_set accounts id (joined_accounts v w)) other spent)
@@ -173,7 +173,7 @@ module _ (seats : ℕ) (words : List ℕ) (accounts : List Account) (id : ℕ) (
             rw same (rule.sums i lt);
       }
 
--- one more account, of no seat
+-- one more account, of no seat, keeps the sums
 pub sums_with_one_more : (seats : ℕ) (words : List ℕ) (accounts : List Account)
     → AreSums seats words accounts → AreSums seats words (accounts ++ spent ∷ [])
 sums_with_one_more seats words accounts rule = record {
@@ -189,7 +189,7 @@ sums_with_one_more seats words accounts rule = record {
       rw same (rule.sums i lt);
 }
 
--- accounts of no seat add nothing
+-- where no account has a seat, nothing was added to any counter
 total_none : (i : ℕ) (accounts : List Account)
     → ((by : ℕ) (a : Account) → get_elem? accounts by ≡ some a → a.seats ≡ 0 → a.calls ≡ []) → total seats_of accounts ≡ 0
     → total (sums_of i) accounts ≡ 0

@@ -111,7 +111,7 @@ pub inbox_turn : (i n : ℕ) (rest : List ItemOf) → i < n
     → inbox_items i (n - i) ++ rest ≡ part_item (part.Inbox i []) ∷ (inbox_items (i + 1) (n - (i + 1)) ++ rest)
 inbox_turn i n rest b = ap (λ (k : ℕ). inbox_items i k ++ rest) (left_over i n b)
 
--- the items of the parts, given out in this order
+-- the items of the first processors come first, then those of the other parts
 cpus_first : (c n : ℕ) (ps : List WorldPart) (rest : List ItemOf)
     → map part_item (cpus_from c n ++ ps) ++ rest ≡ cpu_items c n ++ (map part_item ps ++ rest)
 cpus_first c zero ps rest = refl

@@ -91,7 +91,7 @@ chosen_there d processor from now id p o settled once h e =
     (or_nobody (own_pull processor c s)) settled (own_pull_permitted processor c s once) h in
     taken_one processor id s.running (may_pull_names processor s.running.queue settled.choice id may e)
 
--- a processor beside one that was written
+-- a processor is as before where another one was replaced
 beside : (w : World) (c b : ℕ) (q o : Processor) → b ≢ c → processor_at w b ≡ o → processor_at (with_processor w c q) b ≡ o
 beside w c b q o apart at = get_or-set_other w.processors c b q new_processor apart ∙ at
 
