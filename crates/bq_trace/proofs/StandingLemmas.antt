@@ -13,7 +13,7 @@ use Rattle.bq_trace.proofs.TakingLemmas.{TakesAll-append}
 use Rattle.bq_trace.specs.declared.progress.Progress.{Progress}
 use Rattle.bq_trace.specs.declared.trace_position.TracePosition.{TracePosition}
 
--- one story after another
+-- lines and the lines after them are reported by both stories, joined
 pub Story-append : (p m q : Progress) (xs ys : List (List ℕ)) (t u : Reported)
     → Story p xs t m → Story m ys u q → Story p (xs ++ ys) (t ++ u) q
 Story-append p m q [] ys t u h k =
