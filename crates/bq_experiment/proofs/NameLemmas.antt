@@ -32,7 +32,7 @@ use Rattle.bq_words.specs.Words.{is_space, words}
 use Rattle.bq_experiment.specs.Names.{LearnsAll, comment_by, comment_of, comments_by, comments_from, comments_of, name_of_task, names_of_kind, names_of, plain_name, plain_of}
 use Rattle.bq_experiment.specs.Traces.{skipped}
 
--- the comments of some tasks, and of those behind them
+-- the comments of some tasks and of those behind them are the comments of all, joined
 comments_by-append : (spell : List ℕ → List ℕ) (task : ℕ) (xs ys : List (List ℕ))
     → comments_by spell task (xs ++ ys) ≡ comments_by spell task xs ++ comments_by spell (task + length xs) ys
 comments_by-append spell task [] ys = ap (λ n. comments_by spell n ys) (omega arith)
@@ -41,12 +41,12 @@ comments_by-append spell task (x ∷ xs) ys =
     ap (λ l. comment_by spell task x ∷ l) (comments_by-append spell (task + 1) xs ys)
     ∙ ap (λ n. comment_by spell task x ∷ (comments_by spell (task + 1) xs ++ comments_by spell n ys)) behind
 
--- there is one for each
+-- there is one comment for each name
 pub length-comments_by : (spell : List ℕ → List ℕ) (task : ℕ) (names : List (List ℕ)) → length (comments_by spell task names) ≡ length names
 length-comments_by spell task [] = refl
 length-comments_by spell task (name ∷ names) = let h = length-comments_by spell (task + 1) names in omega arith
 
--- one task more is named
+-- the comments of one task more are those before and its own
 pub comments-more : (spell : List ℕ → List ℕ) (names : List (String Global)) (task : ℕ) (name : String Global)
     → task < length names
     → comments_by spell 0 (map string_bytes (take (task + 1) names))
@@ -58,7 +58,7 @@ comments-more spell names task name low =
     ∙ comments_by-append spell 0 before (string_bytes (get_or names task name) ∷ [])
     ∙ ap (λ n. comments_by spell 0 before ++ comment_by spell n (string_bytes (get_or names task name)) ∷ []) so_far
 
--- one more comment is reported
+-- the reported comments of one task more are those before and its own
 pub reported-more : (names : List (String Global)) (task : ℕ) (name : String Global) (line : List ℕ)
     → task < length names → line ≡ comment_of task (string_bytes (get_or names task name))
     → map skipped (comments_from 0 (map string_bytes (take task names))) ++ skipped line ∷ []
@@ -69,13 +69,13 @@ reported-more names task name line low is =
     ∙ sym (ap (map skipped) (comments-more plain_name names task name low)
     ∙ map-append skipped before (comment_of task (string_bytes (get_or names task name)) ∷ []))
 
--- one comment more is learnt from
+-- who learns from some comments and then from one more learns from all of them
 pub learns_more : (xs : List (List ℕ)) (comment : List ℕ) (old mid new : NamedTasks)
     → LearnsAll xs old mid → Learns comment mid new → LearnsAll (xs ++ comment ∷ []) old new
 learns_more [] comment old mid new h k = (new, subst (λ (n : NamedTasks). Learns comment n new) h k, refl)
 learns_more (x ∷ xs) comment old mid new h k = (h.0, h.1, learns_more xs comment h.0 mid new h.2 k)
 
--- what a viewer keeps it keeps on
+-- what a viewer keeps in one step and keeps in the next it keeps in both
 pub rests_on : (a b c : Viewer) → ViewerRests a b → ViewerRests b c → ViewerRests a c
 rests_on a b c h k = record { schedule = k.schedule ∙ h.schedule; troubles = k.troubles ∙ h.troubles; asked = k.asked ∙ h.asked }
 

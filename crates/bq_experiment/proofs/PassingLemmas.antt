@@ -64,6 +64,7 @@ pub record Grows (old : TraceWriter) (was : Option (List ℕ)) (reported : Repor
   pub added : Appends (append_known was (pending old)) (append_known now (pending new))
       (with_feeds (reported_lines (image_at old.images) reported))
 
+-- they grow by the lines of one event
 record GrowsByOne (old : TraceWriter) (was : Option (List ℕ)) (traced : TraceEvent) (new : TraceWriter)
     (now : Option (List ℕ)) : Type 0 where
   images : new.images ≡ old.images

@@ -59,14 +59,14 @@ stay images more (policy ∷ policies) h =
       stay images more policies h.1,
     )
 
--- one more policy that is that of its image is one of all that are
+-- policies that are those of their images, and one more such policy, all are
 push : (images : ByHook) (policies : List Accepted) (policy : Accepted)
     → AreOfImages images policies → IsLoadedFromImage (images policy.hook) policy
     → AreOfImages images (policies ++ policy ∷ [])
 push images [] policy h one = (one, tt)
 push images (p ∷ policies) policy h one = (h.0, push images policies policy h.1 one)
 
--- one policy and its image more, for a hook at which none was
+-- each policy is that of its image, too, after one more came with an image for a hook at which none was
 pub AreOfTheirImages-adds : (hook : Hook) (image : List ℕ) (policy : Accepted) (old new : Standing)
     → AddsPolicy hook image policy old new → policy.hook ≡ hook → image_for old.images hook ≡ None
     → IsLoadedFromImage (Some image) policy → AreOfTheirImages old
@@ -80,7 +80,7 @@ AreOfTheirImages-adds hook image policy old new adds at free of h =
     subst (λ (l : List Accepted). AreOfImages (image_for new.images) l) (sym adds.loaded)
     (subst (λ (i : List (Hook × List ℕ)). AreOfImages (image_for i) (old.loaded ++ policy ∷ [])) (sym adds.images) all)
 
--- what stood there before some more came
+-- the first members of a list are the same after others came behind them
 pub front_as_before : {A : Type 0} (count : ℕ) (xs ys : List A) → count ≡ length xs → take count (xs ++ ys) ≡ xs
 front_as_before {A = A} count xs ys is = rw is (all xs)
   where
