@@ -10,7 +10,7 @@ pub none_given : {A : Type 0} (Gives : A → Type 0) (e : WordsFault) → ((a : 
 none_given Gives (Words why) none = none
 none_given Gives OutOfMemory none = tt
 
--- where memory runs out, words say none, whatever they are
+-- lack of memory says nothing of the words
 pub no_memory : {A : Type 0} (Gives : A → Type 0) (e : WordsFault) → e ≡ OutOfMemory → GivesNone Gives e
 no_memory {A} Gives e is = subst (λ (f : WordsFault). GivesNone Gives f) (sym is) tt
 
@@ -30,7 +30,7 @@ pub gives_none : {A : Type 0} (Gives : A → Type 0) (e : WordsFault) (why : Str
     → e ≡ Words why → GivesNone Gives e → (a : A) → ¬ Gives a
 gives_none {A} Gives e why is none = subst (λ (f : WordsFault). GivesNone Gives f) is none
 
--- a word that stands for no value gives none
+-- a word that stands for no value is neither read as one nor missing
 pub no_value : {A : Type 0} (P : List ℕ → A → Type 0) (word : List ℕ)
     → ((a : A) → ¬ P word a) → (value : Option A) → ¬ GivesWord P (Some word) value
 no_value P word none None h = h
