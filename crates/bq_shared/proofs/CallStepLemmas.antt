@@ -162,7 +162,7 @@ module _ (d : Discipline) (n : ℕ) where
             ∙ kw,
       ))
 
-  -- a block that is not refused takes one task off the processor
+  -- a block that is not refused leaves the processor one task fewer
   block_load : (c now : ℕ) (p q : Processor) (l m : List LobbyEntry) (r : Reply) → Blocks d c now p l (Ok r) q m → size_of q + 1 ≡ size_of p
   block_load c now p q l m r b =
       let a = after_time d now p in
