@@ -67,7 +67,7 @@ module _ {A B X : Type 0} (f : A → List X) (g : B → List X) where
           let here = ap (λ l. length l) head in
           omega (arith, here, rest)
 
--- n fresh callers are n
+-- there are n fresh callers
 pub fresh_many : (R : Type 0) (s n : ℕ) → let l : List (ℕ × List (Receipt R)) = fresh_callers s n in length l ≡ n
 fresh_many R s zero = refl
 fresh_many R s (suc n) = ap suc (fresh_many R (s + 1) n)
