@@ -10,7 +10,7 @@ use Rattle.bq_trace.specs.Feeding.{Continues, Feeds, BreaksOff, Finishes}
 use Rattle.bq_trace.proofs.LineLemmas.{lines-with_feeds}
 use Rattle.bq_trace.specs.declared.trace_position.TracePosition.{TracePosition}
 
--- what holds of the piece by which nothing has grown holds of all that is there
+-- what holds of the piece that was added to nothing holds of all that is there
 only : (new : List ℕ) (Holds : List ℕ → Type 0) (a : GrowsByPiece [] new Holds) → Holds new
 only new Holds a = subst Holds (sym a.added) a.holds
 
