@@ -69,7 +69,7 @@ reported-more names task name line low is =
     ∙ sym (ap (map skipped) (comments-more plain_name names task name low)
     ∙ map-append skipped before (comment_of task (string_bytes (get_or names task name)) ∷ []))
 
--- who learns from some comments and then from one more learns from all of them
+-- what is learnt from some comments, and then from one more, is learnt from all of them
 pub learns_more : (xs : List (List ℕ)) (comment : List ℕ) (old mid new : NamedTasks)
     → LearnsAll xs old mid → Learns comment mid new → LearnsAll (xs ++ comment ∷ []) old new
 learns_more [] comment old mid new h k = (new, subst (λ (n : NamedTasks). Learns comment n new) h k, refl)
