@@ -1,4 +1,4 @@
-//! All processors of a machine, watched.
+//! What is measured at all processors of a machine: charges, and what tasks are owed.
 ghost use Rattle.std.specs.Prelude.{◌≡◌, ◌≤◌, length, IfOk, replicate, slice_get, List, IsTrue, false};
 ghost use Rattle.bq_disc.specs.Tasks.{Task};
 ghost use Rattle.bq_bounds.specs.LagWatches.{LagsByGlance, all_lags_after, effect_of, lags_of, needs_no_look, source_forgotten, no_lags};

@@ -1,4 +1,4 @@
-//! What is known of a processor's tasks without a look at each.
+//! A glance at a processor: bounds on its tasks' virtual runtimes and on their mean, known without a look at each task.
 
 /// What is known of a processor's tasks without a look at each.
 #[derive(Clone, Copy)]

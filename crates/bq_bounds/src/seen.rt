@@ -7,7 +7,8 @@ use crate::running_task::RunningTask;
 use bq_disc::RunQueue;
 use bq_parts::Cpu;
 
-/// The running task of a processor, and the first that waits. `None` if nothing runs. It takes a time in the logarithm of the waiting tasks.
+/// The running task of a processor, and the first that waits. `None` if nothing runs. The time that it
+/// takes grows with the logarithm of the number of waiting tasks.
 pub fn how_it_stands<Q: RunQueue>(cpu: &Cpu<Q>) -> Option<RunningTask>
     ensures { IsRunningTask cpu.now.running.current cpu.now.running.queue result }
 {

@@ -9,7 +9,7 @@ use crate::policy_words::{most_bytes, name_nothing, policy_words};
 use bq_console::status::{BAD_INPUT, BAD_WORDS, IO_FAILED, OUT_OF_MEMORY};
 use bq_console::{
     Lines, Name, WordsFault, all_words, is_set, read_input, reason, refused_value, refused_words,
-    report_out_of_memory, report_unread, report_unwritten, word,
+    report_file_unwritten, report_unread, report_unwritten, word,
 };
 use bq_policy_check::{Answered, CheckWords, LimitWords, accepted_image, check, unanswered_json};
 use clap::ArgMatches;
@@ -227,26 +227,8 @@ fn write_image(
     match fs::write(rt, path.as_str(), image.as_slice()) {
         Ok(()) => Ok(()),
         Err(error) => {
-            report_no_image(rt, path.as_str(), &error);
+            let _ = report_file_unwritten(rt, path.as_str(), &error);
             Err(failed(rt, words, name, "writing", &error))
-        }
-    }
-}
-
-/// Says why the image can't be written to the file of that name:
-/// `bqsim: p.image: the image can't be written: no space left on device`.
-fn report_no_image(rt: &HostRuntime, path: &str, error: &Error) {
-    if error.kind() == ErrorKind::OutOfMemory {
-        let _ = report_out_of_memory(rt);
-        return;
-    }
-    let path = Name(path);
-    match reason(rt.alloc(), error) {
-        Ok(why) => {
-            let _ = eprintln!(rt; "bqsim: {path}: the image can't be written: {why}");
-        }
-        Err(_) => {
-            let _ = eprintln!(rt; "bqsim: {path}: the image can't be written: {error}");
         }
     }
 }

@@ -120,8 +120,8 @@ fn names_stretch(words: &Words) -> bool
 }
 
 impl Comparing {
-    /// Adds to the tasks that are shown those that have the names that are asked for in a workload. What is noted of the names that no
-    /// task has.
+    /// Adds the tasks that are asked for by name to the tasks that are shown. Returns a note on each name that no task of the
+    /// workload has.
     pub fn add_called(&mut self, alloc: Global, workload: &Workload) -> Result<String, AllocError> {
         let names = workload_names(alloc, workload)?;
         self.add_by_names(alloc, &names)

@@ -11,7 +11,7 @@ use std::alloc::{AllocError, Global};
 const HEAD: &str =
     "of,name,figure,unit,runs,mean,deviation,against_runs,against_mean,against_deviation,difference,difference_deviation,difference_runs\n";
 
-/// A row a figure. Times are in nanoseconds, and what is not there is left empty.
+/// One row for each figure. Times are in nanoseconds, and what is not there is left empty.
 pub(crate) fn csv_text(
     alloc: Global,
     lines: &[FigureLine],

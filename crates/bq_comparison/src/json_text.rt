@@ -13,7 +13,7 @@ use std::alloc::{AllocError, Global};
 /// The version of what the object holds. It changes if a key goes or means something else.
 const SCHEMA: u64 = 1;
 
-/// One object: `schema`, and `figures`, an array with an object a figure. Means, deviations and differences are whole
+/// One object: `schema`, and `figures`, an array with one object for each figure. Means, deviations and differences are whole
 /// thousandths of the unit. What is not there is null, and so is what does not fit 64 bits (a difference: 63).
 pub(crate) fn json_text(
     alloc: Global,

@@ -16,7 +16,7 @@ const WIDE_HEAD: &str = concat!(
     "of             name            figure        unit          mean     deviation       against     deviation    difference     deviation\n",
 );
 
-/// A line a figure, below the head of a table with others or without. Times are in microseconds.
+/// One line for each figure, below the head of a table with others or without. Times are in microseconds.
 pub(crate) fn table_text(
     alloc: Global,
     has_others: bool,

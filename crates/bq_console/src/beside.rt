@@ -1,4 +1,4 @@
-//! Readers that show how much they have read, and writers that do not write into the line which shows it.
+//! Readers that show on a line of the terminal how much they have read, and writers that erase this line before they write.
 ghost use Rattle.std.specs.Prelude.{◌≡◌};
 ghost use Rattle.std.specs.Io.{ReadsAtMost, WritesAtMost};
 ghost use Rattle.std.specs.Io.KnownBytes.{Keeps, ReadConsumes, WriteAppends};
@@ -15,7 +15,7 @@ pub struct ShowingReader<'a, R> {
     progress: &'a ProgressLine<'a>,
     /// The number of bytes that it has given.
     given: u64,
-    /// At how many bytes it shows that next.
+    /// Once it has given this many bytes, it shows how many it has given.
     next: u64,
 }
 

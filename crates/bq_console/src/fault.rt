@@ -1,11 +1,11 @@
-//! Why words are none of a command.
+//! Why words lead to no command: they are refused, they ask for help, or memory ran out.
 ghost use Rattle.std.specs.Prelude.{◌≡◌};
 ghost use Rattle.bq_console.specs.Words.{words_fault};
 
 use std::alloc::{AllocError, AllocFailed};
 use thiserror::Error;
 
-/// Why words are none of a command.
+/// Why words lead to no command.
 #[derive(Debug, Drop, Error)]
 pub enum WordsFault {
     /// They are refused, or they ask for help. The text says so, with its line ends.

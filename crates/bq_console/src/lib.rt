@@ -36,7 +36,9 @@ pub use reading::{
 };
 pub use reasons::reason;
 pub use refused::refused_words;
-pub use reporting::{report_out_of_memory, report_refused, report_unread, report_unwritten};
+pub use reporting::{
+    report_file_unwritten, report_out_of_memory, report_refused, report_unread, report_unwritten,
+};
 pub use status::{OUT_OF_MEMORY, exit_status};
 pub use tables::{CommandText, Given, OptionText, found_in, program, with_commands};
 pub use values::{refused_value, value_words};

@@ -1,4 +1,4 @@
-//! Texts of strangers as a terminal may show them.
+//! Texts from outside, made fit for a terminal: control characters are escaped.
 ghost use Rattle.std.specs.Prelude.{◌≡◌};
 ghost use Rattle.std.specs.List.{list_all};
 ghost use Rattle.bq_console.specs.Values.{is_plain, is_printable, quoted};

@@ -13,7 +13,7 @@ use std::fmt;
 use std::io::{Error, ErrorKind};
 use std::process::ExitCode;
 
-/// Says that memory was wanted.
+/// Says that memory ran out.
 pub fn report_out_of_memory(rt: &HostRuntime) -> ExitCode
     ensures { exit_status result ≡ 3 }
 {
@@ -54,6 +54,24 @@ pub fn report_unwritten(rt: &HostRuntime, error: &Error) -> ExitCode
         return ExitCode::from(IO_FAILED);
     }
     report_failed(rt, &StreamFault::Write, error)
+}
+
+/// Says why the file of that name can't be written: `bqsim: p.image: can't be written: no space left on device`.
+pub fn report_file_unwritten(rt: &HostRuntime, name: &str, error: &Error) -> ExitCode
+    ensures { EndsFor (error_kind error.now) result }
+{
+    report_failed(rt, &UnwrittenFile(name), error)
+}
+
+/// The name of a file, and that it can't be written.
+#[derive(Clone, Copy)]
+struct UnwrittenFile<'a>(&'a str);
+
+impl fmt::Display for UnwrittenFile<'_> {
+    fn fmt<W: fmt::Write>(&self, f: &mut fmt::Formatter<W>) -> fmt::Result {
+        let name = Name(self.0);
+        write!(f, "{name}: can't be written")
+    }
 }
 
 /// Says what failed, and why.

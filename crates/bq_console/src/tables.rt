@@ -1,5 +1,5 @@
 //! Commands and their options as tables, and as clap takes them.
-ghost use Rattle.std.specs.Prelude.{◌≡◌, [], IfErr, IfOk, false, map, true};
+ghost use Rattle.std.specs.Prelude.{◌≡◌, [], IfErr, IfOk, IfSome, None, Some, false, map, true};
 ghost use Rattle.clap.specs.Words.{HasMatchesOf, app_of, fault_of as faults_in, is_simple_and_free, rule_of, takes};
 ghost use Rattle.clap.specs.declared.builder.command.Command.TheViews.{out-Command as fields_of};
 ghost use Rattle.bq_console.specs.Tables.{shape_of_command, empty_program, option_of, options_of, with_commands, with_rules};
@@ -69,7 +69,9 @@ fn option<'a>(alloc: Global, text: &OptionText) -> Arg<'a>
 
 /// An option that its help page shows below this heading, if there is one.
 fn below<'a>(heading: Option<&'static str>, option: Arg<'a>) -> Arg<'a>
-    ensures { result ≡ record option.entry { help_heading = result.help_heading } }
+    ensures rest { result ≡ record option.entry { help_heading = result.help_heading } }
+    ensures none { heading.entry ≡ None → result.help_heading ≡ option.entry.help_heading }
+    ensures heading { IfSome heading.entry (λ h. result.help_heading ≡ Some (Some h)) }
 {
     match heading {
         Some(heading) => option.help_heading(heading),

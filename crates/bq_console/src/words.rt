@@ -1,4 +1,4 @@
-//! Parts and numbers of the words of a command.
+//! How words of a command are read: as two parts around a mark, and as numbers.
 ghost use Rattle.std.specs.Prelude.{ℕ, ◌<◌, ◌^◌, IfNone, IfSome, MatchOption};
 ghost use Rattle.bq_console.specs.Words.{IsSplitAtMark, IsFreeOf, IsNumber, IsNumberWord};
 

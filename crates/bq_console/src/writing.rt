@@ -1,4 +1,4 @@
-//! What commands write whole.
+//! Writing the whole answer of a command to standard output.
 ghost use Rattle.std.specs.Prelude.{◌≡◌, ◌⊎◌};
 ghost use Rattle.bq_console.specs.Status.{EndsFailed};
 

@@ -1,4 +1,4 @@
--- Runs, from their starts.
+-- Runs of tasks, each made from its start: up to its stop, or up to the last reading of the clock if it goes on.
 use Rattle.std.specs.Prelude.{ℕ, Option}
 use Rattle.std.specs.Option.{option_map}
 use Rattle.bq_schedule.specs.declared.change.Start.{Start}

@@ -1,4 +1,4 @@
-//! What the shapes of a picture share.
+//! What all shapes of a picture use: the scale of time, the unit, and the colours and names of tasks.
 ghost use Rattle.std.specs.Prelude.{◌≡◌, ◌++◌, OnOk, chars, length, string_bytes};
 ghost use Rattle.bq_drawing.specs.Shapes.{colour_of, label_width, name_length};
 ghost use Rattle.bq_drawing.specs.Titles.{name_or_number};

@@ -1,4 +1,4 @@
-//! Runs, from their starts.
+//! Runs of tasks, each made from its start: up to its stop, or up to the last reading of the clock if it goes on.
 ghost use Rattle.std.specs.Prelude.{◌≡◌};
 ghost use Rattle.bq_drawing.specs.Runs.{run_ended_by, run_on, run_to};
 

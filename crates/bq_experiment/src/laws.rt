@@ -1,7 +1,7 @@
 //! Laws of the definitions.
 ghost use Rattle.bq_experiment.specs.Traces.{TracesAreReplayed};
 
-/// A replay of the text of a simulation answers what the simulation was answered.
+/// A replay of the trace that a simulation writes gives the same answers that the simulation got.
 pub fn traces_are_replayed()
     ensures { TracesAreReplayed }
 {}

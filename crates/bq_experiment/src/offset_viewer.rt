@@ -6,8 +6,8 @@ use bq_timeline::viewer::Viewer;
 use bq_trace::{Sink, TraceEvent};
 use std::alloc::AllocError;
 
-/// A viewer that counts the lines of the trace from behind the comments that name the tasks: `offset` is how many of those there
-/// are.
+/// A viewer of the lines that come after the comments which name the tasks. It adds `offset`, the number of these comments, to
+/// the number of each line.
 #[derive(Drop)]
 pub struct OffsetViewer {
     pub viewer: Viewer,

@@ -27,7 +27,7 @@ impl<'a> RunProgress<'a> {
         }
     }
 
-    /// An event comes. About once a second it is shown how far the run is.
+    /// Counts an event. About once a second, shows how far the run is.
     pub fn count(&mut self, event: &Event) {
         if let Some(now) = time_of(event) {
             self.now = now;

@@ -35,7 +35,7 @@ pub fn longest_in(
     }
 }
 
-/// What is left of a time without what these runs last from one moment to another. 0 if they last longer.
+/// A time less what these runs take from one moment to another. 0 if they take more.
 pub(crate) fn time_left(time: u64, runs: &[Slice], from: u64, to: u64) -> u64
     ensures { result ≡ time - time_of_all from to runs.now }
 {

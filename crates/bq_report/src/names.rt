@@ -27,7 +27,7 @@ impl Model for Names {
 }
 
 impl Names {
-    /// Names in which no task has one.
+    /// No task has a name yet.
     pub fn new(alloc: Global) -> Names
         ensures { (task : ℕ) → name_of result task ≡ None }
     {

@@ -59,8 +59,8 @@ task_preempted t now = record t { since = now; preemptions = saturating_sum t.pr
 -- the task that ran stops, if there was one: it waits from now on if it was preempted
 abbrev pub stopped : Left → ℕ → Option Start → Figures → Figures
 stopped left now None s = s
-stopped Blocked now (Some old) s = s
-stopped Preempted now (Some old) s = figures_with_task s old.task (task_preempted (task_in_figures s old.task) now)
+stopped Blocked now (Some start) s = s
+stopped Preempted now (Some start) s = figures_with_task s start.task (task_preempted (task_in_figures s start.task) now)
 
 -- the figures after a task started running
 abbrev pub figures_begun : ℕ → ℕ → ℕ → Figures → Figures
@@ -92,7 +92,7 @@ figures_switched left processor now run s =
 
 -- the stop of the task that ran, if there was one
 abbrev pub stop_of : Left → ℕ → Option Start → Option Stop
-stop_of left now running = option_map (λ (old : Start). record { start = old; at = now; left = left }) running
+stop_of left now running = option_map (λ (start : Start). record { start = start; at = now; left = left }) running
 
 -- the stop that a change of the running task reports, if the task changes
 abbrev pub stop_at : Left → ℕ → ℕ → Option ℕ → Figures → Option Stop

@@ -31,7 +31,7 @@ pub struct Change {
 impl Change {
     ghost use Rattle.bq_schedule.specs.Steps.{nothing};
 
-    /// A change of nothing.
+    /// The change by an event that changes nothing.
     pub fn nothing() -> Change
         ensures { result ≡ nothing }
     {

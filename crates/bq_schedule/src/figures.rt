@@ -96,7 +96,7 @@ pub struct ProcessorFigures {
     pub runnable: u64,
     /// The sum of the weights of the runnable tasks.
     pub weight: u64,
-    /// How much each unit of weight was given that was always runnable here, in parts of a nanosecond.
+    /// How much a unit of weight has been given if it was runnable here all the time, in parts of a nanosecond.
     pub shared: u128,
     /// The parts that could not be shared out evenly.
     pub unshared: u128,

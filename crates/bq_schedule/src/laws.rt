@@ -50,7 +50,7 @@ pub fn adds_up_fair_times()
     ensures { AddsUpFairTimes }
 {}
 
-/// Each slice leaves over fewer parts than there are units of weight.
+/// When a slice is shared out, fewer parts are left over than there are units of weight.
 pub fn leaves_little()
     ensures { LeavesLittle }
 {}

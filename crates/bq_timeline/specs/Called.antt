@@ -6,6 +6,7 @@ use Rattle.std.specs.Str.{bytes_eq, chars}
 use Rattle.std.proofs.Math.Utf8.{encodes}
 use Rattle.bq_disc.specs.declared.limits.TheConstants.{TASKS}
 use Rattle.bq_report.specs.Names.{NamedTasks, name_of}
+use Rattle.bq_timeline.specs.declared.called.TheConstants.{QUOTED}
 use Rattle.bq_timeline.specs.Meant.{name_meant}
 
 -- there is another name, and it equals this one
@@ -38,7 +39,7 @@ shown_letter letter = if nat_lt letter 32 || (nat_le 127 letter && nat_lt letter
 
 -- a name as a message quotes it: its first 40 characters
 abbrev pub quoted_name : List ℕ → List ℕ
-quoted_name name = encodes (map shown_letter (take 40 (chars name)))
+quoted_name name = encodes (map shown_letter (take QUOTED (chars name)))
 
 -- the note that no task has this name
 abbrev pub lacking_note : List ℕ → List ℕ

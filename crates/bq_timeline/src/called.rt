@@ -96,7 +96,7 @@ fn note_near(alloc: Global, notes: &mut String, name: &str, near: &str) -> Resul
 }
 
 /// How many characters of a name a message quotes.
-const QUOTED: usize = 40;
+pub const QUOTED: usize = 40;
 
 /// A name as a message quotes it: its first 40 characters, and `?` for each control character.
 fn quoted(alloc: Global, name: &str) -> Result<String, AllocError>

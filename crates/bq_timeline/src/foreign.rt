@@ -1,4 +1,4 @@
-//! A text that is no trace, by its first line.
+//! Tells by its first line what a text that is no trace is: a workload or a policy.
 
 /// What a text is, by its first line, and what to do with it. `None` unless it is a workload or a policy.
 pub(crate) fn foreign_text(line: &[u8]) -> Option<&'static str> {

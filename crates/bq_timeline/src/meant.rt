@@ -1,4 +1,4 @@
-//! The name that was perhaps meant by one that no task has.
+//! The name of a task that was perhaps meant by a name that no task has.
 ghost use Rattle.std.specs.Prelude.{◌≡◌, IfOk, OnOk, option_map};
 ghost use Rattle.bq_timeline.specs.Meant.{edits_after, is_nearer, name_meant, nearest_task};
 
@@ -8,7 +8,7 @@ use bq_words::Near;
 use std::alloc::{AllocError, Global};
 
 /// The longest word, in bytes, for which a near name is looked for.
-const LONGEST: usize = 40;
+pub const LONGEST: usize = 40;
 
 /// The name of a task that is nearest to a name that no task has, if one is near.
 pub(crate) fn name_meant<'a>(

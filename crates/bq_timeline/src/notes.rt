@@ -11,7 +11,8 @@ use bq_lines::with_first_line;
 use bq_schedule::Schedule;
 use std::alloc::AllocError;
 
-/// Notes if none of the named tasks, or none of the named processors, exists, and if the trace ends before what is asked for.
+/// Adds a note if none of the tasks exists that are asked for by number, one if none of the processors exists that are asked
+/// for, and one if the trace ends before the first moment that is asked for.
 pub(crate) fn note_absent(
     notes: &mut String,
     schedule: &Schedule,
@@ -25,7 +26,7 @@ pub(crate) fn note_absent(
     note_past(notes, schedule, part.from)
 }
 
-/// Notes if no clock of the trace reaches the moment from which on it is to be shown.
+/// Adds a note if no clock of the trace reaches the first moment that is asked for.
 fn note_past(notes: &mut String, schedule: &Schedule, from: u64) -> Result<(), AllocError>
     ensures { OnOk result (string_bytes notes.new ≡ string_bytes notes.old ++ past_note schedule.now from) }
 {

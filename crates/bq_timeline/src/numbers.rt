@@ -1,4 +1,4 @@
-//! Tasks and widths as words.
+//! The words that ask for tasks and for the width of a map, and what they mean.
 ghost use Rattle.std.specs.Prelude.{◌≡◌, ◌<◌, ◌≤◌, ◌+◌, ◌-◌, ◌++◌, IfOk, IfSome, MatchBool, None, OnOk, length, map, option_map, position, string_bytes};
 ghost use Rattle.std.specs.List.{range_with_len};
 ghost use Rattle.bq_timeline.specs.Settings.{AddsPart, is_name, names_among_parts, tasks_at, tasks_in_list, tasks_of_part, width_in_word};

@@ -5,7 +5,7 @@ use bq_hooks::Hook;
 use bq_trace::{AnyCore, AnyCpu};
 use std::alloc::AllocError;
 
-/// What asking a policy led to.
+/// What came of asking a policy: the steps that it took, and its answer if that is known.
 #[derive(Clone, Copy)]
 pub(crate) struct Asked {
     /// The instructions that the policy took, 0 if no policy was asked.

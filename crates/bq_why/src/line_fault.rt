@@ -21,7 +21,7 @@ pub enum LineFault<'a> {
     Byte,
     /// No command has this name.
     Name(&'a [u8]),
-    /// The command has this number of words after it, and takes another.
+    /// This many words follow the command, which takes another number of them.
     Count { keyword: Keyword, count: usize },
     /// A word is not what its place takes.
     Word { word: &'a [u8], kind: LineOperand },

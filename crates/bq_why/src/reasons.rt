@@ -50,11 +50,11 @@ pub fn why(
     match discipline {
         DisciplineName::Eevdf => eevdf_reason(run, chosen),
         DisciplineName::Cfs => {
-            let former = match was {
-                Some(id) => with_number(tasks, id),
+            let ran = match was {
+                Some(id) => find_task(tasks, id),
                 None => None,
             };
-            cfs_reason(former, chosen, with_number(tasks, run))
+            cfs_reason(ran, chosen, find_task(tasks, run))
         }
     }
 }
@@ -70,13 +70,13 @@ fn eevdf_reason(run: u16, chosen: Option<Entity>) -> Reason
 }
 
 /// Under CFS, by the task that ran before, the task of least virtual runtime, and the running task.
-fn cfs_reason(former: Option<Entity>, least: Option<Entity>, runs: Option<Entity>) -> Reason
-    ensures { result ≡ cfs_reason_of former least runs }
+fn cfs_reason(ran: Option<Entity>, least: Option<Entity>, runs: Option<Entity>) -> Reason
+    ensures { result ≡ cfs_reason_of ran least runs }
 {
     match (least, runs) {
         (Some(least), Some(runs)) => {
             if runs.id() == least.id() {
-                least_reason(former, &least)
+                least_reason(ran, &least)
             } else {
                 Reason::Stays {
                     ahead: runs.v().saturating_sub(least.v()),
@@ -89,19 +89,19 @@ fn cfs_reason(former: Option<Entity>, least: Option<Entity>, runs: Option<Entity
 }
 
 /// Under CFS, if the task of least virtual runtime runs.
-fn least_reason(former: Option<Entity>, least: &Entity) -> Reason
-    ensures { result ≡ least_reason_of former least.now }
+fn least_reason(ran: Option<Entity>, least: &Entity) -> Reason
+    ensures { result ≡ least_reason_of ran least.now }
 {
-    match former {
-        Some(former) if least.v() + GRANULARITY < former.v() => Reason::GivesWay {
-            ahead: former.v().saturating_sub(least.v()),
+    match ran {
+        Some(ran) if least.v() + GRANULARITY < ran.v() => Reason::GivesWay {
+            ahead: ran.v().saturating_sub(least.v()),
         },
         _ => Reason::LeastRuntime,
     }
 }
 
 /// The task with this id, if it is there.
-pub(crate) fn with_number(tasks: &[Entity], id: u16) -> Option<Entity>
+pub(crate) fn find_task(tasks: &[Entity], id: u16) -> Option<Entity>
     ensures { result ≡ find_task id tasks.now }
 {
     tasks.iter().copied().find(|task| task.id() == id)

@@ -1,7 +1,7 @@
 //! The tasks that a choice is distinguished from, in words.
 ghost use Rattle.std.specs.Prelude.{◌≤◌, length};
 
-use crate::reasons::with_number;
+use crate::reasons::find_task;
 use crate::rivals::{passed_over, tied_with};
 use crate::texts::{TaskText, VirtualTime};
 use bq_disc::Entity;
@@ -19,7 +19,7 @@ pub(crate) fn write_deadlines(
 ) -> Result<(), AllocError>
     requires { length tasks.now ≤ TASKS }
 {
-    if let Some(chosen) = with_number(tasks, run) {
+    if let Some(chosen) = find_task(tasks, run) {
         if let Some(other) = tied_with(DisciplineName::Eevdf, &chosen, tasks) {
             let who = who(names, &other);
             let tied = other.id();
@@ -82,7 +82,7 @@ pub(crate) fn write_equal_runtime(
 ) -> Result<(), AllocError>
     requires { length tasks.now ≤ TASKS }
 {
-    if let Some(chosen) = with_number(tasks, run) {
+    if let Some(chosen) = find_task(tasks, run) {
         if let Some(other) = tied_with(DisciplineName::Cfs, &chosen, tasks) {
             let who = who(names, &other);
             let tied = other.id();

@@ -1,4 +1,4 @@
-//! The tasks that a choice is distinguished from: one that is due first and passed over, and one that is as near to being chosen.
+//! The rivals of a chosen task: one that is due first but not eligible, and one that is tied with it.
 ghost use Rattle.std.specs.Prelude.{◌≡◌, ◌≤◌, length, find};
 ghost use Rattle.bq_disc.specs.Tasks.{first_by};
 ghost use Rattle.bq_disc.specs.Dues.{due_before};

@@ -14,7 +14,7 @@ pub struct Changes {
 }
 
 impl Changes {
-    /// None.
+    /// No changes.
     pub const NONE: Changes = Changes {
         discipline: None,
         size: None,

@@ -21,7 +21,8 @@ const FOREIGN: [(&str, &str); 11] = [
     ("time", "duration"),
 ];
 
-/// The word among these that is meant by a key which is often written for it, if there is one; else the nearest, if one is near.
+/// The word that was perhaps meant by an unknown key: the one among these for which the key is often written, else the nearest of
+/// them, if one is near.
 pub(crate) fn meant_word(
     alloc: Global,
     meant: &str,
