@@ -153,7 +153,7 @@ pub struct Stop {
     /// The start that this stop ends.
     pub start: Start,
     pub at: u64,
-    pub left: Left,
+    pub reason: Left,
 }
 
 /// Why a task stopped running.
