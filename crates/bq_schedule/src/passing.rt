@@ -24,9 +24,14 @@ impl Schedule {
     {
         let figures = &mut self.processors[usize::from(processor)];
         let reading = figures.reading(processor, now);
-        let slice = slice_between(processor, reading.from, reading.to, figures.running);
+        let slice = slice_between(
+            processor,
+            reading.previous,
+            reading.current,
+            figures.running,
+        );
         let run = ended_run(figures.run, slice);
-        figures.pass(reading.to, slice);
+        figures.pass(reading.current, slice);
         self.charge(slice);
         (reading, slice, run)
     }
@@ -76,8 +81,8 @@ impl ProcessorFigures {
     {
         ClockReading {
             processor,
-            from: self.last,
-            to: now.min(LATEST).max(self.last),
+            previous: self.last,
+            current: now.min(LATEST).max(self.last),
             is_back: now < self.last,
         }
     }

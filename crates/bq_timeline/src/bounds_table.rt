@@ -66,7 +66,7 @@ impl BoundsTable {
             return Ok(());
         };
         let processor = reading.processor;
-        let rise = reading.to.saturating_sub(reading.from);
+        let rise = reading.current.saturating_sub(reading.previous);
         let running = self.running;
         match machine.seen(processor) {
             Some(AnyCpu::Cfs(cpu)) => {

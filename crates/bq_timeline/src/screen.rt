@@ -272,7 +272,7 @@ impl Screen {
         ensures { ChangesOnlyNotes self.old self.new }
     {
         let processor = reading.processor;
-        let last = reading.to;
+        let last = reading.current;
         write!(
             self.notes,
             "line {number}: the clock of processor {processor} goes back; the reading counts as {last}\n"

@@ -117,7 +117,7 @@ impl Why {
             return Ok(());
         };
         let at = match &done.change.reading {
-            Some(reading) => reading.to,
+            Some(reading) => reading.current,
             None => now,
         };
         if !self.shows(processor, at, done.reply) {
