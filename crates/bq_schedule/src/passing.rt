@@ -5,7 +5,7 @@ ghost use Rattle.bq_schedule.specs.Passing.{reading_at, slice_at, slice_between,
 
 use crate::change::{ClockReading, Start};
 use crate::figures::{ProcessorFigures, TaskFigures};
-use crate::schedule::{PARTS, Schedule};
+use crate::schedule::{PARTS_PER_NANOSECOND, Schedule};
 use crate::slice::Slice;
 use bq_disc::clock::LATEST;
 
@@ -92,7 +92,7 @@ impl ProcessorFigures {
         ensures { self.new ≡ passed self.old to slice }
     {
         let length = length_of(slice);
-        let time = u128::from(length) * PARTS;
+        let time = u128::from(length) * PARTS_PER_NANOSECOND;
         let weight = u128::from(self.weight);
         let part = if weight == 0 { 0 } else { time / weight };
         if self.first.is_none() {
