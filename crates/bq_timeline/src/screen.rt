@@ -44,7 +44,7 @@ pub struct Screen {
     /// The form, once it has begun.
     shown: Option<Shown>,
     /// How near the bounds of the discipline are, once the form has begun, if it is the report.
-    near: Option<BoundsTable>,
+    bounds: Option<BoundsTable>,
     part: Part,
     /// The tasks that are shown, once the form has begun. Empty if all are shown.
     tasks: Vec<u16>,
@@ -59,12 +59,12 @@ impl Screen {
     pub fn new(alloc: Global, settings: Settings) -> Screen
         ensures asked { result.asked ≡ Some settings }
         ensures names { (task : ℕ) → name_of result.names task ≡ None }
-        ensures none { (result.discipline ≡ None) × (result.shown ≡ None) × (result.near ≡ None) }
+        ensures none { (result.discipline ≡ None) × (result.shown ≡ None) × (result.bounds ≡ None) }
         ensures text { string_bytes result.text ≡ [] }
         ensures part { (result.part.processors ≡ settings.window.processors) × (result.part.from ≡ settings.window.from) }
     {
         Screen {
-            near: None,
+            bounds: None,
             part: Part {
                 processors: settings.window.processors,
                 from: settings.window.from,
@@ -121,24 +121,24 @@ impl Screen {
         let asked = settings.names.as_slice();
         note_uncalled(alloc, &mut self.notes, asked, &self.names)?;
         let mut shown = self.form_of(alloc, settings)?;
-        self.begin_near(alloc, discipline, &shown, schedule)?;
+        self.begin_bounds(alloc, discipline, &shown, schedule)?;
         shown.begin(discipline, schedule, &self.names, &mut self.text)?;
         self.shown = Some(shown);
         Ok(())
     }
 
     /// Prepares to show how near the bounds of the discipline are, if the form is the report.
-    fn begin_near(
+    fn begin_bounds(
         &mut self,
         alloc: Global,
         discipline: DisciplineName,
         shown: &Shown,
         schedule: &Schedule,
     ) -> Result<(), AllocError>
-        ensures table { OnOk result (HasTable shown.now self.new.near) }
-        ensures rest { self.new ≡ record self.old { near = self.new.near } }
+        ensures table { OnOk result (HasTable shown.now self.new.bounds) }
+        ensures rest { self.new ≡ record self.old { bounds = self.new.bounds } }
     {
-        self.near = match shown {
+        self.bounds = match shown {
             Shown::Report(_) => Some(BoundsTable::new(alloc, discipline, schedule.processors())?),
             _ => None,
         };
@@ -180,8 +180,8 @@ impl Screen {
         if let Some(Shown::Why(form)) = &mut self.shown {
             form.comes(number, event, machine)?;
         }
-        if let Some(near) = &mut self.near {
-            near.comes(event, machine);
+        if let Some(bounds) = &mut self.bounds {
+            bounds.comes(event, machine);
         }
         Ok(())
     }
@@ -223,11 +223,11 @@ impl Screen {
         machine: &AnyCore,
         change: &Change,
     ) -> Result<(), AllocError>
-        ensures table { KeepsTable self.old.near self.new.near }
-        ensures rest { self.new ≡ record self.old { near = self.new.near } }
+        ensures table { KeepsTable self.old.bounds self.new.bounds }
+        ensures rest { self.new ≡ record self.old { bounds = self.new.bounds } }
     {
-        match &mut self.near {
-            Some(near) => near.answered(event, reply, machine, change),
+        match &mut self.bounds {
+            Some(bounds) => bounds.answered(event, reply, machine, change),
             None => Ok(()),
         }
     }
@@ -368,11 +368,11 @@ impl Screen {
 
     /// Adds the table of bounds, if there is one.
     fn write_bounds(&mut self) -> Result<(), AllocError>
-        ensures table { OnOk result (StandsBehind self.old.near (string_bytes self.old.text) (string_bytes self.new.text)) }
+        ensures table { OnOk result (StandsBehind self.old.bounds (string_bytes self.old.text) (string_bytes self.new.text)) }
         ensures rest { self.new ≡ record self.old { text = self.new.text } }
     {
-        match &self.near {
-            Some(near) => near.write(self.part.processors, &mut self.text),
+        match &self.bounds {
+            Some(bounds) => bounds.write(self.part.processors, &mut self.text),
             None => Ok(()),
         }
     }
