@@ -40,7 +40,7 @@ pub struct Why {
 }
 
 /// The processor at which an event may choose, and the event's time. `None` if the event makes no choice.
-pub fn place_of(event: &Event) -> Option<(u8, u64)>
+pub fn processor_and_time(event: &Event) -> Option<(u8, u64)>
     ensures { result ≡ choice_place event.now }
 {
     match event {
@@ -90,7 +90,7 @@ impl Why {
         if let Event::BeginWake { .. } = event {
             self.begun = Some(number);
         }
-        self.was = match place_of(event) {
+        self.was = match processor_and_time(event) {
             Some((processor, _)) => running(machine, processor),
             None => None,
         };
@@ -113,7 +113,7 @@ impl Why {
         names: &Names,
         text: &mut String,
     ) -> Result<(), AllocError> {
-        let Some((processor, now)) = place_of(done.event) else {
+        let Some((processor, now)) = processor_and_time(done.event) else {
             return Ok(());
         };
         let at = match &done.change.reading {
