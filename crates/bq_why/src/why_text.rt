@@ -244,6 +244,7 @@ impl Why {
                 || self.shows_either(self.was))
     }
 
+    /// Whether the window shows this task. No task is not shown.
     fn shows_either(&self, task: Option<u16>) -> bool {
         match task {
             Some(task) => self.window.shows_task(task),
