@@ -55,7 +55,7 @@ impl Watch {
         self.decide_by_event(event, reply, running.is_some());
     }
 
-    /// The clock has risen.
+    /// Adds how far the clock has risen, if `elapsed` is known.
     fn rise(&mut self, rise: u64)
         ensures { self.new ≡ risen rise self.old }
     {
@@ -64,7 +64,7 @@ impl Watch {
         }
     }
 
-    /// The task that ran is charged.
+    /// Measures the charge of the task that ran, if there is one. Counts it as left out if `elapsed` is `None`.
     fn charge(&mut self, discipline: DisciplineName, running: &RunningTask, rise: u64, mean: u64)
         ensures { self.new ≡ watch_charged discipline running.now rise mean self.old.elapsed self.old }
     {

@@ -79,7 +79,7 @@ impl Screen {
         }
     }
 
-    /// The machine is made, under a discipline.
+    /// Notes that the machine is made, under this discipline.
     pub fn opened(&mut self, discipline: DisciplineName)
         ensures { self.new ≡ record self.old { discipline = Some discipline } }
     {
@@ -164,7 +164,7 @@ impl Screen {
         Ok(Shown::of(alloc, form, window, width, look))
     }
 
-    /// A comment came, which may name a task.
+    /// Learns the name of a task from a comment, if it names one.
     pub(crate) fn comment(&mut self, line: &[u8]) -> Result<(), AllocError>
         ensures learned { OnOk result (Learns line.now self.old.names self.new.names) }
         ensures rest { self.new ≡ record self.old { names = self.new.names } }
@@ -172,7 +172,7 @@ impl Screen {
         self.names.learn(line)
     }
 
-    /// The event of a line is about to be done.
+    /// Prepares the form and the table for an event that is about to be done.
     pub fn comes(&mut self, number: u64, event: &Event, machine: &AnyCore) -> Result<(), AllocError>
         ensures comes { OnOk result (ScreenComes (state_of self.old) (state_of self.new)) }
         ensures text { self.new.text ≡ self.old.text }
@@ -186,7 +186,7 @@ impl Screen {
         Ok(())
     }
 
-    /// An event was done, or refused.
+    /// Shows an event that was done, or notes why it was refused.
     pub fn answered(
         &mut self,
         number: u64,
@@ -249,7 +249,7 @@ impl Screen {
         }
     }
 
-    /// An event was refused.
+    /// Notes why an event was refused.
     fn refused(&mut self, number: u64, event: &Event, refusal: Refusal) -> Result<(), AllocError>
         ensures { ChangesOnlyNotes self.old self.new }
     {
@@ -267,7 +267,7 @@ impl Screen {
         }
     }
 
-    /// The clock of a processor was read, and had gone back.
+    /// Notes that the clock of a processor has gone back.
     fn note_goes_back(&mut self, number: u64, reading: &ClockReading) -> Result<(), AllocError>
         ensures { ChangesOnlyNotes self.old self.new }
     {
@@ -279,14 +279,14 @@ impl Screen {
         )
     }
 
-    /// The word of an image is not hex.
+    /// Notes that the word of an image is not hex.
     pub fn note_bad_hex(&mut self, number: u64) -> Result<(), AllocError>
         ensures { ChangesOnlyNotes self.old self.new }
     {
         write!(self.notes, "line {number}: the image is no hex\n")
     }
 
-    /// An image does not load.
+    /// Notes why an image does not load.
     pub fn note_not_loaded(&mut self, number: u64, fault: LoadFault) -> Result<(), AllocError>
         ensures { ChangesOnlyNotes self.old self.new }
     {
@@ -297,7 +297,7 @@ impl Screen {
         )
     }
 
-    /// A processor is asked for that the machine does not have.
+    /// Notes that the machine has no such processor.
     pub fn note_no_processor(&mut self, number: u64, processor: u8) -> Result<(), AllocError>
         ensures { ChangesOnlyNotes self.old self.new }
     {
