@@ -201,7 +201,7 @@ greater_within (Some g) c h k = greater_by c g (leb c.difference g.difference) h
 measured_by : (d : Discipline) (p : Running) (nows : List ℕ) (o : Option Charge) (w : Watch)
     → IfSome o KeepsItsBound → IsWatchOf d p nows w → IsWatchOf d p nows (measured_if o w)
 measured_by d p nows None w h is = is
-measured_by d p nows (Some c) w h is = record { since = is.since; greatest = greater_within w.greatest c is.greatest h }
+measured_by d p nows (Some c) w h is = record { elapsed = is.elapsed; greatest = greater_within w.greatest c is.greatest h }
 
 -- the rise up to one reading, and that reading's own, are the rise up to the next, and fit in 64 bits
 counted : (start last now : ℕ) → start ≤ last → last ≤ max start (2 ^ 48 - 1)
@@ -218,7 +218,7 @@ counts d p nows now w is =
     let sum = counted start.last q.last now goes.0 goes.1 in
     let end = ap (λ (x : Running). x.last - start.last) (after_read d start nows now) in
     record {
-      since = ap (option_map (λ (n : ℕ). min (n + rise q now) (2 ^ 64 - 1))) is.since ∙ ap (λ (n : ℕ). Some n) (sum ∙ sym end);
+      elapsed = ap (option_map (λ (n : ℕ). min (n + rise q now) (2 ^ 64 - 1))) is.elapsed ∙ ap (λ (n : ℕ). Some n) (sum ∙ sym end);
       greatest = is.greatest;
     }
 
@@ -232,7 +232,7 @@ watch_within discipline d law p nows now (Some s) w sound is h =
     let next = risen r w in
     let counted = counts d p nows now w is in
     let P : Option ℕ → Type 0 = λ o. IsWatchOf d p (nows ++ now ∷ []) (charged_by discipline s r mean o next) in
-    subst P (sym counted.since) (measured_by d p (nows ++ now ∷ [])
+    subst P (sym counted.elapsed) (measured_by d p (nows ++ now ∷ [])
     (measured_charge discipline s r (risen_since d p (nows ++ now ∷ [])) mean) next (law p nows now s sound h) counted)
 
 -- who decides changes nothing of what is kept
@@ -252,7 +252,7 @@ decided_by_event_leaves e r busy w = grind (arith, decided_leaves, pulled_leaves
 -- from a decision of the discipline on a watch counts the rise of the clock, and what it keeps does not pass its bound
 pub watches_within : WatchesWithin
 watches_within = record {
-  begins = λ d p w h. record { since = ap (λ (n : ℕ). Some n) (omega arith); greatest = h };
+  begins = λ d p w h. record { elapsed = ap (λ (n : ℕ). Some n) (omega arith); greatest = h };
   cfs = watch_within Cfs cfs cfs_measures;
   eevdf = watch_within Eevdf eevdf eevdf_measures;
   leaves = decided_by_event_leaves;

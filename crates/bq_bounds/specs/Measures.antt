@@ -46,7 +46,7 @@ pub record MeasuresWithin : Type 0 where
 -- a watch of a processor whose clock was read a few times since the discipline decided: it counts the rise since the decision, and the
 -- greatest charge that it keeps does not pass its bound
 pub record IsWatchOf (d : Discipline) (p : Running) (nows : List ℕ) (w : Watch) : Type 0 where
-  pub since : w.since ≡ Some (risen_since d p nows)
+  pub elapsed : w.elapsed ≡ Some (risen_since d p nows)
   pub greatest : IfSome w.greatest KeepsItsBound
 
 -- `IsWatchOf` still holds after one more reading

@@ -17,11 +17,11 @@ use Rattle.bq_bounds.specs.Charges.{measured_charge}
 
 -- a watch before the first event
 abbrev pub unwatched : Watch
-unwatched = record { since = None; measured = 0; left_out = 0; greatest = None }
+unwatched = record { elapsed = None; measured = 0; left_out = 0; greatest = None }
 
 -- the watch after a rise of the clock
 abbrev pub risen : ℕ → Watch → Watch
-risen rise w = record w { since = option_map (λ (n : ℕ). saturating_sum n rise) w.since }
+risen rise w = record w { elapsed = option_map (λ (n : ℕ). saturating_sum n rise) w.elapsed }
 
 -- the charge of greater difference, the first of two equal ones
 abbrev pub greater : Option Charge → Charge → Charge
@@ -40,21 +40,21 @@ measured_if (Some c) w = measured c w
 -- the running task is charged: the charge is measured if the discipline decided last and nothing has disturbed that since
 abbrev pub watch_charged : DisciplineName → RunningTask → ℕ → ℕ → Option ℕ → Watch → Watch
 watch_charged discipline s rise mean None w = record w { left_out = saturating_sum w.left_out 1 }
-watch_charged discipline s rise mean (Some since) w = measured_if (measured_charge discipline s rise since mean) w
+watch_charged discipline s rise mean (Some elapsed) w = measured_if (measured_charge discipline s rise elapsed mean) w
 
 -- the watch after the running task was charged, if one ran
 abbrev pub charged_if : DisciplineName → Option RunningTask → ℕ → ℕ → Watch → Watch
 charged_if discipline None rise mean w = w
-charged_if discipline (Some s) rise mean w = watch_charged discipline s rise mean w.since w
+charged_if discipline (Some s) rise mean w = watch_charged discipline s rise mean w.elapsed w
 
 -- the watch after a decision: the discipline's starts the count, a policy's ends it
 abbrev pub watch_decided : By → Watch → Watch
-watch_decided who.Discipline w = record w { since = Some 0 }
-watch_decided who.Policy w = record w { since = None }
+watch_decided who.Discipline w = record w { elapsed = Some 0 }
+watch_decided who.Policy w = record w { elapsed = None }
 
 -- the watch after a task came or went that the discipline did not see
 abbrev pub disturbed : Watch → Watch
-disturbed w = record w { since = None }
+disturbed w = record w { elapsed = None }
 
 -- a pull decides if nothing ran before, and disturbs if something ran and a task comes
 abbrev pub watch_pulled : Option ℕ → Bool → Watch → Watch

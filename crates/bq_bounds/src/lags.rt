@@ -59,7 +59,7 @@ impl Lags {
     {
         let effect = effect_of(event, reply);
         match self.stretch {
-            Some(stretch) if effect != Effect::Breaks => self.go_on(stretch, effect, rise, tasks),
+            Some(stretch) if effect != Effect::Breaks => self.extend(stretch, effect, rise, tasks),
             _ => {
                 self.left_out = self.left_out.saturating_add(1);
                 self.stretch = Some(Stretch::begin(tasks));
@@ -81,14 +81,14 @@ impl Lags {
         if effect == Effect::Breaks || stretch.at_most_owed(glance) > greatest.difference {
             return false;
         }
-        self.go_on_unseen(stretch, effect, rise);
+        self.extend_unseen(stretch, effect, rise);
         true
     }
 }
 
 impl Lags {
     /// The stretch goes on: time is charged, and the discipline may decide.
-    fn go_on(&mut self, stretch: Stretch, effect: Effect, rise: u64, tasks: &[Entity])
+    fn extend(&mut self, stretch: Stretch, effect: Effect, rise: u64, tasks: &[Entity])
         requires { length tasks.now ≤ TASKS }
         ensures { self.new ≡ gone_on effect rise tasks.now stretch self.old }
     {
@@ -105,7 +105,7 @@ impl Lags {
     }
 
     /// The stretch goes on, and no task is owed more than one was before.
-    fn go_on_unseen(&mut self, stretch: Stretch, effect: Effect, rise: u64)
+    fn extend_unseen(&mut self, stretch: Stretch, effect: Effect, rise: u64)
         ensures { self.new ≡ record self.old { stretch = Some (decided_in effect (stretched rise stretch)); measured = saturating_sum self.old.measured 1 } }
     {
         let mut stretch = stretch;

@@ -49,7 +49,7 @@ impl Stretch {
         }
     }
 
-    /// The clock has risen.
+    /// Adds how far the clock has risen.
     pub fn rise(&mut self, rise: u64)
         ensures { self.new ≡ stretched rise self.old }
     {
@@ -57,7 +57,7 @@ impl Stretch {
         self.most = self.most.max(self.since);
     }
 
-    /// The discipline decides who runs.
+    /// Notes that the discipline decides who runs: `since` is 0 again.
     pub fn decide(&mut self)
         ensures { self.new ≡ record self.old { since = 0 } }
     {

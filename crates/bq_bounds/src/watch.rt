@@ -13,7 +13,7 @@ use bq_words::DisciplineName;
 pub struct Watch {
     /// How far the clock has risen since the discipline decided who runs. `None` if a policy decided last, or if a pull has
     /// disturbed what the discipline saw.
-    pub since: Option<u64>,
+    pub elapsed: Option<u64>,
     /// How many charges were measured.
     pub measured: u64,
     /// How many charges were not measured.
@@ -28,7 +28,7 @@ impl Watch {
         ensures { result ≡ unwatched }
     {
         Watch {
-            since: None,
+            elapsed: None,
             measured: 0,
             left_out: 0,
             greatest: None,
@@ -55,22 +55,22 @@ impl Watch {
         self.decide_by_event(event, reply, running.is_some());
     }
 
-    /// The clock has risen.
+    /// Adds how far the clock has risen, if `elapsed` is known.
     fn rise(&mut self, rise: u64)
         ensures { self.new ≡ risen rise self.old }
     {
-        if let Some(since) = self.since {
-            self.since = Some(since.saturating_add(rise));
+        if let Some(elapsed) = self.elapsed {
+            self.elapsed = Some(elapsed.saturating_add(rise));
         }
     }
 
-    /// The task that ran is charged.
+    /// Measures the charge of the task that ran, if there is one. Counts it as left out if `elapsed` is `None`.
     fn charge(&mut self, discipline: DisciplineName, running: &RunningTask, rise: u64, mean: u64)
-        ensures { self.new ≡ watch_charged discipline running.now rise mean self.old.since self.old }
+        ensures { self.new ≡ watch_charged discipline running.now rise mean self.old.elapsed self.old }
     {
-        match self.since {
-            Some(since) => {
-                if let Some(charge) = running.charge(discipline, rise, since, mean) {
+        match self.elapsed {
+            Some(elapsed) => {
+                if let Some(charge) = running.charge(discipline, rise, elapsed, mean) {
                     self.measure(charge);
                 }
             }
@@ -124,7 +124,7 @@ impl Watch {
     fn decide(&mut self, by: By)
         ensures { self.new ≡ watch_decided by self.old }
     {
-        self.since = match by {
+        self.elapsed = match by {
             By::Discipline => Some(0),
             By::Policy => None,
         };
@@ -134,7 +134,7 @@ impl Watch {
     pub fn disturb(&mut self)
         ensures { self.new ≡ disturbed self.old }
     {
-        self.since = None;
+        self.elapsed = None;
     }
 }
 

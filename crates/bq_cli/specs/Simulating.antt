@@ -3,12 +3,12 @@ use Rattle.std.specs.Prelude.{Some, None}
 use Rattle.bq_comparison.specs.Asking.{AskFor}
 use Rattle.bq_experiment.specs.Asking.{AskForChanges, AskToShow}
 use Rattle.bq_experiment.specs.declared.words.StudyWords.{StudyWords}
-use Rattle.bq_cli.specs.declared.simulate.Shown.{Shown}
-use Rattle.bq_cli.specs.declared.simulate.Shown.TheVariants.{Figures, Run}
+use Rattle.bq_cli.specs.declared.simulate.WorkloadShown.{WorkloadShown}
+use Rattle.bq_cli.specs.declared.simulate.WorkloadShown.TheVariants.{Figures, Run}
 use Rattle.bq_cli.specs.declared.simulate.AskedSimulation.{AskedSimulation}
 
 -- the words ask for this comparison; or for none, and for a run that is shown so
-abbrev pub AskForStudy : StudyWords → Shown → Type 0
+abbrev pub AskForStudy : StudyWords → WorkloadShown → Type 0
 AskForStudy words (Figures asked) = AskFor words (Some asked)
 AskForStudy words (Run shown) = AskFor words None × AskToShow words shown
 

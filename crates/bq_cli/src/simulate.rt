@@ -110,7 +110,7 @@ fn hook_words(alloc: Global, matches: &ArgMatches<'_>) -> Result<HookWords, Allo
 
 /// What is shown of a workload.
 #[derive(Drop)]
-enum Shown {
+enum WorkloadShown {
     /// One run.
     Run(ShownAs),
     /// The figures of several runs, of one choice of policies or of two side by side.
@@ -120,7 +120,7 @@ enum Shown {
 /// What `simulate` is asked for.
 #[derive(Drop)]
 struct AskedSimulation {
-    shown: Shown,
+    shown: WorkloadShown,
     /// The changes of the workload's own machine.
     changes: Changes,
 }
@@ -137,11 +137,11 @@ fn simulation_of(alloc: Global, words: &StudyWords) -> Result<AskedSimulation, W
 }
 
 /// What the words ask to be shown.
-fn shown_of(alloc: Global, words: &StudyWords) -> Result<Shown, WordsFault>
+fn shown_of(alloc: Global, words: &StudyWords) -> Result<WorkloadShown, WordsFault>
     ensures { IfOk result (AskForStudy words.now) }
 {
     match asked_comparison(alloc, words) {
-        Ok(Some(comparing)) => return Ok(Shown::Figures(comparing)),
+        Ok(Some(comparing)) => return Ok(WorkloadShown::Figures(comparing)),
         Ok(None) => {}
         Err(ComparingFault::Settings(SettingsFault::OutOfMemory)) => {
             return Err(WordsFault::OutOfMemory);
@@ -149,7 +149,7 @@ fn shown_of(alloc: Global, words: &StudyWords) -> Result<Shown, WordsFault>
         Err(fault) => return Err(refusal(alloc, &fault, fault.refused(words))),
     }
     match ShownAs::of(alloc, words) {
-        Ok(shown) => Ok(Shown::Run(shown)),
+        Ok(shown) => Ok(WorkloadShown::Run(shown)),
         Err(fault) => Err(asked_fault(alloc, words, fault)),
     }
 }
@@ -200,8 +200,8 @@ fn simulated<T: Threads + Sync>(
     let workload = workload(rt, words, bytes, simulation.changes)?;
     let policies = policies(rt, words, bytes)?;
     match simulation.shown {
-        Shown::Run(shown) => show_run(rt, &workload, &policies, shown, events),
-        Shown::Figures(asked) => {
+        WorkloadShown::Run(shown) => show_run(rt, &workload, &policies, shown, events),
+        WorkloadShown::Figures(asked) => {
             let others = others(rt, words, bytes)?;
             let others = others.as_ref();
             show_figures(rt, threads, &workload, &policies, others, asked, events)

@@ -37,7 +37,7 @@ pub record ShowsMoment (w : Window) (p at : ℕ) : Type 0 where
 abbrev pub IsShownDecision : Window → Option Decision → Option ClockReading → Option Decision → Type 0
 IsShownDecision w None reading part = part ≡ None
 IsShownDecision w (Some d) None part = part ≡ None
-IsShownDecision w (Some d) (Some r) part = SomeIff part ((was_overruled d ≡ true) × ShowsMoment w r.processor r.to) d
+IsShownDecision w (Some d) (Some r) part = SomeIff part ((was_overruled d ≡ true) × ShowsMoment w r.processor r.current) d
 
 -- a pull is shown if the window shows it at the processor that pulls
 abbrev pub IsShownPull : Window → Option PulledTask → Option PulledTask → Type 0
@@ -47,7 +47,7 @@ IsShownPull w (Some p) part = SomeIff part (Shows w p.to p.task p.at) p
 -- a reading of a clock is shown if its moment is inside the window
 abbrev pub IsShownReading : Window → Option ClockReading → Option ClockReading → Type 0
 IsShownReading w None part = part ≡ None
-IsShownReading w (Some r) part = SomeIff part (ShowsMoment w r.processor r.to) r
+IsShownReading w (Some r) part = SomeIff part (ShowsMoment w r.processor r.current) r
 
 -- the parts of a change that are shown, each by its own rule
 pub record ShowsChange (w : Window) (change : Change) (shown : ShownParts) : Type 0 where
@@ -64,7 +64,7 @@ pub record ShowsChange (w : Window) (change : Change) (shown : ShownParts) : Typ
 abbrev pub perfetto_overruled : Option Decision → Option ClockReading → List ℕ
 perfetto_overruled None reading = []
 perfetto_overruled (Some d) None = []
-perfetto_overruled (Some d) (Some r) = overruled_text (hook_word d.hook) d.steps r.processor r.to
+perfetto_overruled (Some d) (Some r) = overruled_text (hook_word d.hook) d.steps r.processor r.current
 
 -- a wake and the beginning of its arrow, if there is a wake
 abbrev pub perfetto_wake : NamedTasks → ℕ → Option Wake → List ℕ
@@ -118,7 +118,7 @@ perfetto_count processor at count (Some reported) = if reported == count then []
 -- how many tasks are runnable at a processor after a reading, if the number has changed
 abbrev pub perfetto_reading : Figures → Past → Option ClockReading → List ℕ
 perfetto_reading s h None = []
-perfetto_reading s h (Some r) = perfetto_count r.processor r.to (processor_in_figures s r.processor).runnable (written_count h r.processor)
+perfetto_reading s h (Some r) = perfetto_count r.processor r.current (processor_in_figures s r.processor).runnable (written_count h r.processor)
 
 -- ---- what is known after each part
 

@@ -111,12 +111,12 @@ pub fn write_overruled(
     text: &mut String,
 ) -> Result<(), AllocError>
     ensures { OnOk result (string_bytes text.new
-        ≡ string_bytes text.old ++ overruled_text (hook_word decision.now.hook) decision.now.steps reading.now.processor reading.now.to) }
+        ≡ string_bytes text.old ++ overruled_text (hook_word decision.now.hook) decision.now.steps reading.now.processor reading.now.current) }
 {
     let hook = decision.hook.word();
     let steps = decision.steps;
     let track = EVENTS + u64::from(reading.processor);
-    let at = Micros(reading.to);
+    let at = Micros(reading.current);
     write!(
         text,
         ",\n{{\"ph\":\"i\",\"s\":\"t\",\"cat\":\"policy\",\"name\":\"{hook} overruled\",\"pid\":0,\"tid\":{track},\"ts\":{at},\"args\":{{\"steps\":{steps}}}}}"
@@ -129,10 +129,10 @@ pub fn write_counter(
     count: u64,
     text: &mut String,
 ) -> Result<(), AllocError>
-    ensures { OnOk result (string_bytes text.new ≡ string_bytes text.old ++ counter_text reading.now.processor reading.now.to count) }
+    ensures { OnOk result (string_bytes text.new ≡ string_bytes text.old ++ counter_text reading.now.processor reading.now.current count) }
 {
     let processor = reading.processor;
-    let at = Micros(reading.to);
+    let at = Micros(reading.current);
     write!(
         text,
         ",\n{{\"ph\":\"C\",\"name\":\"cpu {processor} runnable\",\"pid\":0,\"ts\":{at},\"args\":{{\"tasks\":{count}}}}}"

@@ -277,10 +277,10 @@ fn shown_reading(window: &Window, reading: Option<ClockReading>) -> Option<Clock
 
 /// Whether the moment of a reading is shown.
 fn shows_moment(window: &Window, reading: &ClockReading) -> bool
-    ensures { IsTrue result ↔ ShowsMoment window.now reading.now.processor reading.now.to }
+    ensures { IsTrue result ↔ ShowsMoment window.now reading.now.processor reading.now.current }
 {
-    window.from <= reading.to
-        && reading.to <= window.to
+    window.from <= reading.current
+        && reading.current <= window.to
         && window.shows_processor(reading.processor)
 }
 
@@ -459,7 +459,7 @@ fn write_count(
     text: &mut String,
 ) -> Result<(), AllocError>
     ensures { OnOk result (string_bytes text.new
-        ≡ string_bytes text.old ++ perfetto_count reading.now.processor reading.now.to count reported) }
+        ≡ string_bytes text.old ++ perfetto_count reading.now.processor reading.now.current count reported) }
 {
     match reported {
         Some(reported) if reported != count => write_counter(reading, count, text),

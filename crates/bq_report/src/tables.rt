@@ -4,7 +4,7 @@ ghost use Rattle.bq_report.specs.Columns.{task_columns, millis_column, latency_c
 
 use crate::amounts::{Decimals, Millis};
 use crate::percent::Percent;
-use bq_schedule::{HookFigures, PARTS, Percentiles, ProcessorFigures, TaskFigures};
+use bq_schedule::{HookFigures, PARTS_PER_NANOSECOND, Percentiles, ProcessorFigures, TaskFigures};
 use std::alloc::AllocError;
 
 /// The head above the lines of the tasks.
@@ -56,7 +56,9 @@ fn write_latency(text: &mut String, latency: Option<u64>) -> Result<(), AllocErr
 pub fn nanoseconds(parts: u128) -> u64
     ensures { result ≡ nearest parts }
 {
-    u64::try_from(parts.saturating_add(PARTS / 2) / PARTS).unwrap_or(u64::MAX)
+    u64::try_from(parts.saturating_add(PARTS_PER_NANOSECOND / 2) / PARTS_PER_NANOSECOND).unwrap_or(
+        u64::MAX,
+    )
 }
 
 /// Adds the line of a task: its nice value, its time, its fair time, and how often it started, was preempted and migrated.

@@ -214,7 +214,7 @@ start_if false running processor at (Some id) u start is e =
 pub record IsStop (running : Option Start) (left : Left) (at : ℕ) (run : Option ℕ) (stop : Stop) : Type 0 where
   pub start : running ≡ Some stop.start
   pub time : stop.at ≡ at
-  pub why : stop.left ≡ left
+  pub why : stop.reason ≡ left
   pub new : option_map (λ (x : Start). x.task) running ≢ run
 
 -- what is reported to stop, where another runs than did, is such a stop
@@ -224,7 +224,7 @@ pub stop_if : (b : Bool) (running : Option Start) (left : Left) (at : ℕ) (run 
 stop_if true running left at run stop is e = cc
 stop_if false None left at run stop is e = cc
 stop_if false (Some old) left at run stop is e =
-    let x : Stop = record { start = old; at = at; left = left } in
+    let x : Stop = record { start = old; at = at; reason = left } in
     let same : x ≡ stop = cc in
     let P : Stop → Type 0 = λ st. IsStop (Some old) left at run st in
     subst P same (record { start = refl; time = refl; why = refl; new = not_who (Some old) run is })
@@ -422,7 +422,7 @@ runs_here count (m ∷ past) h j st inside e =
 abbrev pub IsStopOf : ℕ → History → Event → Option Sight → Stop → Type 0
 IsStopOf count past e o sp =
     (sp.start.processor < count) × CeasesWith sp.start.processor sp.start.task past o
-    × (sp.at ≡ clock_after sp.start.processor (clock sp.start.processor past) o) × (sp.left ≡ why_left e)
+    × (sp.at ≡ clock_after sp.start.processor (clock sp.start.processor past) o) × (sp.reason ≡ why_left e)
 
 -- a stop that is told is of a task that ceases to run there, at that reading, by what the answer shows:
 stop-run : (count : ℕ) (past : History) (e : Event) (processor now : ℕ) (o : Option (Option ℕ)) (s' : Figures)
@@ -470,7 +470,7 @@ ceased-reported : (running : Option Start) (left : Left) (at j task : ℕ) (stop
 ceased-reported None left at j task stop is e here = cc
 ceased-reported (Some old) left at j task stop is e here =
     let same : old.task ≡ task = cc in
-    and_some stop _ (record { start = old; at = at; left = left }) is (here old refl, same)
+    and_some stop _ (record { start = old; at = at; reason = left }) is (here old refl, same)
 
 -- of each task that ceases to run a stop is told, by cases:
 ceased-there : (count : ℕ) (past : History) (processor now j task : ℕ) (run : Option ℕ) (s' : Figures) (left : Left)

@@ -146,7 +146,7 @@ ReportsStops = (count : ℕ) (past : History) (m : Moment) → IsOfProcessors co
     (s.start.processor < count)
     × CeasesAt s.start.processor s.start.task m past
     × (s.at ≡ clock s.start.processor (m ∷ past))
-    × (s.left ≡ why_left m.event))
+    × (s.reason ≡ why_left m.event))
 
 -- the reported starts of a processor are, in their order, those that its stops ended, and then the start of the running task, if one
 -- runs: so each start ends with one stop, and starts and stops alternate

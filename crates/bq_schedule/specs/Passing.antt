@@ -12,7 +12,7 @@ use Rattle.bq_schedule.specs.Figures.{Figures, processor_in_figures, task_in_fig
 
 -- the reading of a clock as it counts; the clock goes back if it reads less than the last time
 abbrev pub reading_at : ℕ → ProcessorFigures → ℕ → ClockReading
-reading_at processor p now = record { processor = processor; from = p.last; to = reading p.last now; is_back = nat_lt now p.last }
+reading_at processor p now = record { processor = processor; previous = p.last; current = reading p.last now; is_back = nat_lt now p.last }
 
 -- the slice of the running task from one reading to another, unless it is empty
 abbrev pub slice_between : ℕ → ℕ → ℕ → Option Start → Option Slice

@@ -92,7 +92,7 @@ figures_switched left processor now run s =
 
 -- the stop of the task that ran, if there was one
 abbrev pub stop_of : Left → ℕ → Option Start → Option Stop
-stop_of left now running = option_map (λ (start : Start). record { start = start; at = now; left = left }) running
+stop_of left now running = option_map (λ (start : Start). record { start = start; at = now; reason = left }) running
 
 -- the stop that a change of the running task reports, if the task changes
 abbrev pub stop_at : Left → ℕ → ℕ → Option ℕ → Figures → Option Stop

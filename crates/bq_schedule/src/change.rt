@@ -53,9 +53,9 @@ impl Change {
 pub struct ClockReading {
     pub processor: u8,
     /// The reading before this one, 0 if this is the first.
-    pub from: u64,
+    pub previous: u64,
     /// The reading as it counts: at most 2^48 - 1, and no less than the reading before.
-    pub to: u64,
+    pub current: u64,
     /// Whether the clock went back. The reading before counts then.
     pub is_back: bool,
 }
@@ -153,7 +153,7 @@ pub struct Stop {
     /// The start that this stop ends.
     pub start: Start,
     pub at: u64,
-    pub left: Left,
+    pub reason: Left,
 }
 
 /// Why a task stopped running.

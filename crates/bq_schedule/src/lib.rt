@@ -20,5 +20,5 @@ pub use change::{Change, ClockReading, Decision, Left, PulledTask, Start, Stop, 
 pub use figures::{HookFigures, ProcessorFigures, TaskFigures};
 pub use latencies::Latencies;
 pub use percentiles::{Percentiles, WakeLatencies};
-pub use schedule::{PARTS, Schedule};
+pub use schedule::{PARTS_PER_NANOSECOND, Schedule};
 pub use slice::Slice;

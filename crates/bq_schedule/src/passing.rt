@@ -5,7 +5,7 @@ ghost use Rattle.bq_schedule.specs.Passing.{reading_at, slice_at, slice_between,
 
 use crate::change::{ClockReading, Start};
 use crate::figures::{ProcessorFigures, TaskFigures};
-use crate::schedule::{PARTS, Schedule};
+use crate::schedule::{PARTS_PER_NANOSECOND, Schedule};
 use crate::slice::Slice;
 use bq_disc::clock::LATEST;
 
@@ -24,9 +24,14 @@ impl Schedule {
     {
         let figures = &mut self.processors[usize::from(processor)];
         let reading = figures.reading(processor, now);
-        let slice = slice_between(processor, reading.from, reading.to, figures.running);
+        let slice = slice_between(
+            processor,
+            reading.previous,
+            reading.current,
+            figures.running,
+        );
         let run = ended_run(figures.run, slice);
-        figures.pass(reading.to, slice);
+        figures.pass(reading.current, slice);
         self.charge(slice);
         (reading, slice, run)
     }
@@ -76,8 +81,8 @@ impl ProcessorFigures {
     {
         ClockReading {
             processor,
-            from: self.last,
-            to: now.min(LATEST).max(self.last),
+            previous: self.last,
+            current: now.min(LATEST).max(self.last),
             is_back: now < self.last,
         }
     }
@@ -87,7 +92,7 @@ impl ProcessorFigures {
         ensures { self.new ≡ passed self.old to slice }
     {
         let length = length_of(slice);
-        let time = u128::from(length) * PARTS;
+        let time = u128::from(length) * PARTS_PER_NANOSECOND;
         let weight = u128::from(self.weight);
         let part = if weight == 0 { 0 } else { time / weight };
         if self.first.is_none() {

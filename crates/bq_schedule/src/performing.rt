@@ -109,7 +109,7 @@ impl Schedule {
         ensures change { result ≡ report_of_placement processor now decision id to self.old }
     {
         let (reading, slice, ended) = self.read(processor, now);
-        let at = reading.to;
+        let at = reading.current;
         self.ask(processor, &decision);
         self.come(id, to, at);
         self.wake(id, to, at);
@@ -148,7 +148,7 @@ impl Schedule {
         ensures change { result ≡ report_of_decision processor now decision run self.old }
     {
         let (reading, slice, ended) = self.read(processor, now);
-        let at = reading.to;
+        let at = reading.current;
         self.ask(processor, &decision);
         let (stop, start) = self.switch(Left::Preempted, processor, at, run);
         Change {
@@ -169,7 +169,7 @@ impl Schedule {
         ensures change { result ≡ report_of_block processor now id run self.old }
     {
         let (reading, slice, ended) = self.read(processor, now);
-        let at = reading.to;
+        let at = reading.current;
         self.leave(id);
         let (stop, start) = self.switch(Left::Blocked, processor, at, run);
         Change {
@@ -197,7 +197,7 @@ impl Schedule {
         ensures change { result ≡ report_of_pull processor from now decision task run self.old }
     {
         let (reading, slice, ended) = self.read(processor, now);
-        let at = reading.to;
+        let at = reading.current;
         self.ask(processor, &decision);
         let pull = self.take_over(task, from, processor, at);
         let (stop, start) = self.switch(Left::Preempted, processor, at, run);

@@ -12,32 +12,32 @@ impl Schedule {
     /// From now on this task runs at a processor, or none does. If it is the one that ran before, nothing changes.
     pub(crate) fn switch(
         &mut self,
-        left: Left,
+        reason: Left,
         processor: u8,
         now: u64,
         run: Option<u16>,
     ) -> (Option<Stop>, Option<Start>)
-        ensures figures { self.new ≡ figures_switched left processor now run self.old }
-        ensures stop { result.0 ≡ stop_at left processor now run self.old }
-        ensures start { result.1 ≡ start_at left processor now run self.old }
+        ensures figures { self.new ≡ figures_switched reason processor now run self.old }
+        ensures stop { result.0 ≡ stop_at reason processor now run self.old }
+        ensures start { result.1 ≡ start_at reason processor now run self.old }
     {
         let running = self.processor(processor).running;
         if is_run_by(running, run) {
             return (None, None);
         }
         (
-            self.stop(left, now, running),
+            self.stop(reason, now, running),
             self.start(processor, now, run),
         )
     }
 
     /// The task that ran stops, if there was one.
-    fn stop(&mut self, left: Left, now: u64, running: Option<Start>) -> Option<Stop>
-        ensures figures { self.new ≡ stopped left now running self.old }
-        ensures stop { result ≡ stop_of left now running }
+    fn stop(&mut self, reason: Left, now: u64, running: Option<Start>) -> Option<Stop>
+        ensures figures { self.new ≡ stopped reason now running self.old }
+        ensures stop { result ≡ stop_of reason now running }
     {
         let start = running?;
-        if left == Left::Preempted {
+        if reason == Left::Preempted {
             let mut task = self.task(start.task);
             task.preempt(now);
             self.set_task(start.task, task);
@@ -45,7 +45,7 @@ impl Schedule {
         Some(Stop {
             start,
             at: now,
-            left,
+            reason,
         })
     }
 

@@ -13,7 +13,7 @@ use std::alloc::{AllocError, Global};
 use std::marker::Model;
 
 /// How many parts a nanosecond has. Fair times are counted in parts.
-pub const PARTS: u128 = 1_000_000_000_000;
+pub const PARTS_PER_NANOSECOND: u128 = 1_000_000_000_000;
 
 /// A schedule: who ran where and when, as events and their answers have shown it so far.
 ///

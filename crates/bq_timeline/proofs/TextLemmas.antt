@@ -150,8 +150,8 @@ ends_if_behind p s names None before after h = ap (λ t. p ++ t) h
 ends_if_behind p s names (Some shown) before after h = ends_behind p s names shown before after h
 
 -- a table that there may be stands behind two texts as it does behind the second
-stands_behind : (p : List ℕ) (near : Option BoundsTable) (before after : List ℕ)
-    → StandsBehind near before after → StandsBehind near (p ++ before) (p ++ after)
+stands_behind : (p : List ℕ) (bounds : Option BoundsTable) (before after : List ℕ)
+    → StandsBehind bounds before after → StandsBehind bounds (p ++ before) (p ++ after)
 stands_behind p None before after h = ap (λ t. p ++ t) h
 stands_behind p (Some table) before after h = (h.0, ap (λ t. p ++ t) h.1 ∙ sym (append_assoc p before _))
 
@@ -162,7 +162,7 @@ text_ends_behind p None old before after h = ap (λ t. p ++ t) h
 text_ends_behind p (Some s) old before after h = record {
   formed = p ++ h.formed;
   ends = ends_if_behind p s old.names old.shown before h.formed h.ends;
-  bounds = stands_behind p old.near h.formed after h.bounds;
+  bounds = stands_behind p old.bounds h.formed after h.bounds;
 }
 
 -- the end of a trace is shown behind another text as it is without it

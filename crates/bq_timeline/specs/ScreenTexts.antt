@@ -21,18 +21,18 @@ pub record ScreenState : Type 0 where
   pub asked : Option Settings
   pub discipline : Option DisciplineName
   pub shown : Option Shown
-  pub near : Option BoundsTable
+  pub bounds : Option BoundsTable
 
 -- what this screen holds besides its text and its notes
 abbrev pub state_of : Screen → ScreenState
-state_of screen = record { names = screen.names; asked = screen.asked; discipline = screen.discipline; shown = screen.shown; near = screen.near }
+state_of screen = record { names = screen.names; asked = screen.asked; discipline = screen.discipline; shown = screen.shown; bounds = screen.bounds }
 
 -- ---- the form begins
 
 -- only the report has a table of bounds
 abbrev pub HasTable : Shown → Option BoundsTable → Type 0
-HasTable (form.Report report) near = IsSome near
-HasTable other near = near ≡ None
+HasTable (form.Report report) bounds = IsSome bounds
+HasTable other bounds = bounds ≡ None
 
 -- The form that the settings ask for appears, and what it adds when it begins under a discipline stands behind the text.
 pub record FormAppears (discipline : DisciplineName) (s : Figures) (asked : Settings) (old new : ScreenState) (before after : List ℕ) : Type 0 where
@@ -42,7 +42,7 @@ pub record FormAppears (discipline : DisciplineName) (s : Figures) (asked : Sett
   pub form : Shown
   pub opens : FormOpens discipline s fresh form before after
   pub shown : new.shown ≡ Some form
-  pub table : HasTable fresh new.near
+  pub table : HasTable fresh new.bounds
   pub rest : (new.names ≡ old.names) × (new.discipline ≡ old.discipline)
 
 -- the form begins if there is a schedule and a discipline, and its settings are still there
@@ -67,14 +67,14 @@ FormRests old new = (new ≡ old) ⊎ AreWhy old new
 
 -- a table of bounds is there if one was there before
 abbrev pub KeepsTable : Option BoundsTable → Option BoundsTable → Type 0
-KeepsTable None near = near ≡ None
-KeepsTable (Some table) near = IsSome near
+KeepsTable None bounds = bounds ≡ None
+KeepsTable (Some table) bounds = IsSome bounds
 
 -- An event is about to be done. No form but `why` heeds that, and the text stays as it is.
 pub record ScreenComes (old new : ScreenState) : Type 0 where
   pub form : FormRests old.shown new.shown
-  pub table : KeepsTable old.near new.near
-  pub rest : new ≡ record old { shown = new.shown; near = new.near }
+  pub table : KeepsTable old.bounds new.bounds
+  pub rest : new ≡ record old { shown = new.shown; bounds = new.bounds }
 
 -- what a form does if there is one; without a form nothing changes
 abbrev pub IfShown : (Shown → Shown → List ℕ → List ℕ → Type 0) → Option Shown → Option Shown → List ℕ → List ℕ → Type 0
@@ -85,8 +85,8 @@ IfShown Does (Some old) None before after = ⊥
 -- An event was done. What the form adds for it stands behind the text.
 pub record ScreenShows (event : Event) (change : Change) (s : Figures) (old new : ScreenState) (before after : List ℕ) : Type 0 where
   pub form : IfShown (FormAnswers event change s old.names) old.shown new.shown before after
-  pub table : KeepsTable old.near new.near
-  pub rest : new ≡ record old { shown = new.shown; near = new.near }
+  pub table : KeepsTable old.bounds new.bounds
+  pub rest : new ≡ record old { shown = new.shown; bounds = new.bounds }
 
 -- An event was done or refused. The text stays as it is if the event was refused.
 abbrev pub ScreenAnswers : Event → Result Reply Refusal → Change → Figures → ScreenState → ScreenState → List ℕ → List ℕ → Type 0
@@ -118,4 +118,4 @@ StandsBehind (Some table) before after = (lines : List ℕ) × (after ≡ before
 pub record ScreenEnds (s : Figures) (old : ScreenState) (before after : List ℕ) : Type 0 where
   pub formed : List ℕ
   pub ends : FormEndsIf s old.names old.shown before formed
-  pub bounds : StandsBehind old.near formed after
+  pub bounds : StandsBehind old.bounds formed after

@@ -42,7 +42,7 @@ pub record IsBlank (asked : Settings) (state : ScreenState) : Type 0 where
   pub names : (task : ℕ) → name_of state.names task ≡ None
   pub discipline : state.discipline ≡ None
   pub shown : state.shown ≡ None
-  pub near : state.near ≡ None
+  pub bounds : state.bounds ≡ None
 
 -- the form ends, if there is a machine
 abbrev pub TextEnds : Option Figures → ScreenState → List ℕ → List ℕ → Type 0

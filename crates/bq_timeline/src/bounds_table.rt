@@ -11,7 +11,7 @@ use bq_report::percent::Percent;
 use bq_report::tables::write_millis;
 use bq_schedule::Change;
 use bq_trace::{AnyCore, AnyCpu};
-use bq_why::{place_of, present};
+use bq_why::{present, processor_and_time};
 use bq_words::DisciplineName;
 use std::alloc::{AllocError, Global};
 
@@ -44,7 +44,7 @@ impl BoundsTable {
 
     /// Notes the running task of an event's processor before the event.
     pub fn comes(&mut self, event: &Event, machine: &AnyCore) {
-        self.running = match place_of(event) {
+        self.running = match processor_and_time(event) {
             Some((processor, _)) => match machine.seen(processor) {
                 Some(AnyCpu::Cfs(cpu)) => how_it_stands(cpu),
                 Some(AnyCpu::Eevdf(cpu)) => how_it_stands(cpu),
@@ -66,7 +66,7 @@ impl BoundsTable {
             return Ok(());
         };
         let processor = reading.processor;
-        let rise = reading.to.saturating_sub(reading.from);
+        let rise = reading.current.saturating_sub(reading.previous);
         let running = self.running;
         match machine.seen(processor) {
             Some(AnyCpu::Cfs(cpu)) => {

@@ -44,7 +44,7 @@ pub struct Screen {
     /// The form, once it has begun.
     shown: Option<Shown>,
     /// How near the bounds of the discipline are, once the form has begun, if it is the report.
-    near: Option<BoundsTable>,
+    bounds: Option<BoundsTable>,
     part: Part,
     /// The tasks that are shown, once the form has begun. Empty if all are shown.
     tasks: Vec<u16>,
@@ -59,12 +59,12 @@ impl Screen {
     pub fn new(alloc: Global, settings: Settings) -> Screen
         ensures asked { result.asked ≡ Some settings }
         ensures names { (task : ℕ) → name_of result.names task ≡ None }
-        ensures none { (result.discipline ≡ None) × (result.shown ≡ None) × (result.near ≡ None) }
+        ensures none { (result.discipline ≡ None) × (result.shown ≡ None) × (result.bounds ≡ None) }
         ensures text { string_bytes result.text ≡ [] }
         ensures part { (result.part.processors ≡ settings.window.processors) × (result.part.from ≡ settings.window.from) }
     {
         Screen {
-            near: None,
+            bounds: None,
             part: Part {
                 processors: settings.window.processors,
                 from: settings.window.from,
@@ -79,7 +79,7 @@ impl Screen {
         }
     }
 
-    /// The machine is made, under a discipline.
+    /// Notes that the machine is made, under this discipline.
     pub fn opened(&mut self, discipline: DisciplineName)
         ensures { self.new ≡ record self.old { discipline = Some discipline } }
     {
@@ -121,24 +121,24 @@ impl Screen {
         let asked = settings.names.as_slice();
         note_uncalled(alloc, &mut self.notes, asked, &self.names)?;
         let mut shown = self.form_of(alloc, settings)?;
-        self.begin_near(alloc, discipline, &shown, schedule)?;
+        self.begin_bounds(alloc, discipline, &shown, schedule)?;
         shown.begin(discipline, schedule, &self.names, &mut self.text)?;
         self.shown = Some(shown);
         Ok(())
     }
 
     /// Prepares to show how near the bounds of the discipline are, if the form is the report.
-    fn begin_near(
+    fn begin_bounds(
         &mut self,
         alloc: Global,
         discipline: DisciplineName,
         shown: &Shown,
         schedule: &Schedule,
     ) -> Result<(), AllocError>
-        ensures table { OnOk result (HasTable shown.now self.new.near) }
-        ensures rest { self.new ≡ record self.old { near = self.new.near } }
+        ensures table { OnOk result (HasTable shown.now self.new.bounds) }
+        ensures rest { self.new ≡ record self.old { bounds = self.new.bounds } }
     {
-        self.near = match shown {
+        self.bounds = match shown {
             Shown::Report(_) => Some(BoundsTable::new(alloc, discipline, schedule.processors())?),
             _ => None,
         };
@@ -164,7 +164,7 @@ impl Screen {
         Ok(Shown::of(alloc, form, window, width, look))
     }
 
-    /// A comment came, which may name a task.
+    /// Learns the name of a task from a comment, if it names one.
     pub(crate) fn comment(&mut self, line: &[u8]) -> Result<(), AllocError>
         ensures learned { OnOk result (Learns line.now self.old.names self.new.names) }
         ensures rest { self.new ≡ record self.old { names = self.new.names } }
@@ -172,7 +172,7 @@ impl Screen {
         self.names.learn(line)
     }
 
-    /// The event of a line is about to be done.
+    /// Prepares the form and the table for an event that is about to be done.
     pub fn comes(&mut self, number: u64, event: &Event, machine: &AnyCore) -> Result<(), AllocError>
         ensures comes { OnOk result (ScreenComes (state_of self.old) (state_of self.new)) }
         ensures text { self.new.text ≡ self.old.text }
@@ -180,13 +180,13 @@ impl Screen {
         if let Some(Shown::Why(form)) = &mut self.shown {
             form.comes(number, event, machine)?;
         }
-        if let Some(near) = &mut self.near {
-            near.comes(event, machine);
+        if let Some(bounds) = &mut self.bounds {
+            bounds.comes(event, machine);
         }
         Ok(())
     }
 
-    /// An event was done, or refused.
+    /// Shows an event that was done, or notes why it was refused.
     pub fn answered(
         &mut self,
         number: u64,
@@ -223,11 +223,11 @@ impl Screen {
         machine: &AnyCore,
         change: &Change,
     ) -> Result<(), AllocError>
-        ensures table { KeepsTable self.old.near self.new.near }
-        ensures rest { self.new ≡ record self.old { near = self.new.near } }
+        ensures table { KeepsTable self.old.bounds self.new.bounds }
+        ensures rest { self.new ≡ record self.old { bounds = self.new.bounds } }
     {
-        match &mut self.near {
-            Some(near) => near.answered(event, reply, machine, change),
+        match &mut self.bounds {
+            Some(bounds) => bounds.answered(event, reply, machine, change),
             None => Ok(()),
         }
     }
@@ -249,7 +249,7 @@ impl Screen {
         }
     }
 
-    /// An event was refused.
+    /// Notes why an event was refused.
     fn refused(&mut self, number: u64, event: &Event, refusal: Refusal) -> Result<(), AllocError>
         ensures { ChangesOnlyNotes self.old self.new }
     {
@@ -267,26 +267,26 @@ impl Screen {
         }
     }
 
-    /// The clock of a processor was read, and had gone back.
+    /// Notes that the clock of a processor has gone back.
     fn note_goes_back(&mut self, number: u64, reading: &ClockReading) -> Result<(), AllocError>
         ensures { ChangesOnlyNotes self.old self.new }
     {
         let processor = reading.processor;
-        let last = reading.to;
+        let last = reading.current;
         write!(
             self.notes,
             "line {number}: the clock of processor {processor} goes back; the reading counts as {last}\n"
         )
     }
 
-    /// The word of an image is not hex.
+    /// Notes that the word of an image is not hex.
     pub fn note_bad_hex(&mut self, number: u64) -> Result<(), AllocError>
         ensures { ChangesOnlyNotes self.old self.new }
     {
         write!(self.notes, "line {number}: the image is no hex\n")
     }
 
-    /// An image does not load.
+    /// Notes why an image does not load.
     pub fn note_not_loaded(&mut self, number: u64, fault: LoadFault) -> Result<(), AllocError>
         ensures { ChangesOnlyNotes self.old self.new }
     {
@@ -297,7 +297,7 @@ impl Screen {
         )
     }
 
-    /// A processor is asked for that the machine does not have.
+    /// Notes that the machine has no such processor.
     pub fn note_no_processor(&mut self, number: u64, processor: u8) -> Result<(), AllocError>
         ensures { ChangesOnlyNotes self.old self.new }
     {
@@ -368,11 +368,11 @@ impl Screen {
 
     /// Adds the table of bounds, if there is one.
     fn write_bounds(&mut self) -> Result<(), AllocError>
-        ensures table { OnOk result (StandsBehind self.old.near (string_bytes self.old.text) (string_bytes self.new.text)) }
+        ensures table { OnOk result (StandsBehind self.old.bounds (string_bytes self.old.text) (string_bytes self.new.text)) }
         ensures rest { self.new ≡ record self.old { text = self.new.text } }
     {
-        match &self.near {
-            Some(near) => near.write(self.part.processors, &mut self.text),
+        match &self.bounds {
+            Some(bounds) => bounds.write(self.part.processors, &mut self.text),
             None => Ok(()),
         }
     }

@@ -71,7 +71,7 @@ impl Shown {
         }
     }
 
-    /// A task is admitted.
+    /// Admits a task to the form, if the form gives tasks letters or colours.
     fn admit(&mut self, task: u16) -> Result<(), AllocError>
         ensures { OnOk result (FormAdmits task self.old self.new) }
     {

@@ -31,4 +31,4 @@ pub use pull_sight::{OwnPull, PullSight, sight};
 pub use reasons::{Reason, why};
 pub use rivals::{passed_over, tied_with};
 pub use task_row::{TaskRow, measured_from, rows};
-pub use why_text::{Occurrence, Why, place_of};
+pub use why_text::{Occurrence, Why, processor_and_time};

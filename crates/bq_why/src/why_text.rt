@@ -40,7 +40,7 @@ pub struct Why {
 }
 
 /// The processor at which an event may choose, and the event's time. `None` if the event makes no choice.
-pub fn place_of(event: &Event) -> Option<(u8, u64)>
+pub fn processor_and_time(event: &Event) -> Option<(u8, u64)>
     ensures { result ≡ choice_place event.now }
 {
     match event {
@@ -90,7 +90,7 @@ impl Why {
         if let Event::BeginWake { .. } = event {
             self.begun = Some(number);
         }
-        self.was = match place_of(event) {
+        self.was = match processor_and_time(event) {
             Some((processor, _)) => running(machine, processor),
             None => None,
         };
@@ -113,11 +113,11 @@ impl Why {
         names: &Names,
         text: &mut String,
     ) -> Result<(), AllocError> {
-        let Some((processor, now)) = place_of(done.event) else {
+        let Some((processor, now)) = processor_and_time(done.event) else {
             return Ok(());
         };
         let at = match &done.change.reading {
-            Some(reading) => reading.to,
+            Some(reading) => reading.current,
             None => now,
         };
         if !self.shows(processor, at, done.reply) {
@@ -244,6 +244,7 @@ impl Why {
                 || self.shows_either(self.was))
     }
 
+    /// Whether the window shows this task. No task is not shown.
     fn shows_either(&self, task: Option<u16>) -> bool {
         match task {
             Some(task) => self.window.shows_task(task),

@@ -19,6 +19,6 @@ returns-clause-done c = λ xs _ seen.
     let there = subst (λ (o : Option Stretch). IsGlance c.args.glance o xs) c.in-Some-Some.is-0 seen in
     let same = only_stretch_changes effect c.args.rise c.args.glance s l c.in-Some-Some.greatest xs goes c.in-Some-Some.is-1 low there in
     let by =
-    subst (λ (o : Option Stretch). lags_by effect o c.args.rise xs l ≡ c.go_on_unseen.new.self) (sym c.in-Some-Some.is-0)
-    (same ∙ sym c.go_on_unseen.ensures) in
-    sym (subst (λ (k : Effect). lags_by k l.stretch c.args.rise xs l ≡ c.go_on_unseen.new.self) c.effect_of-effect.ensures by)
+    subst (λ (o : Option Stretch). lags_by effect o c.args.rise xs l ≡ c.extend_unseen.new.self) (sym c.in-Some-Some.is-0)
+    (same ∙ sym c.extend_unseen.ensures) in
+    sym (subst (λ (k : Effect). lags_by k l.stretch c.args.rise xs l ≡ c.extend_unseen.new.self) c.effect_of-effect.ensures by)

@@ -9,12 +9,12 @@ use Rattle.bq_schedule.proofs.schedule.Schedule.place.Goals as goal
 pub returns-clause-figures : goal.returns-clause-figures
 returns-clause-figures c =
     let x = c.args in
-    let at = c.read-slice.result.0.to in
+    let at = c.read-slice.result.0.current in
     let came : c.come.new.self ≡ comes x.id x.to at (figures_asked x.processor x.decision (figures_read x.processor x.now x.self.now)) =
     c.come.ensures
     ∙ ap (λ (f : Figures). comes x.id x.to at f)
     (c.ask.ensures ∙ ap (λ (f : Figures). figures_asked x.processor x.decision f) c.read-slice.ensures.figures) in
-    let is : at ≡ time_at x.processor x.now x.self.now = ap (λ (r : ClockReading). r.to) c.read-slice.ensures.reading in
+    let is : at ≡ time_at x.processor x.now x.self.now = ap (λ (r : ClockReading). r.current) c.read-slice.ensures.reading in
     c.wake.ensures ∙ ap (λ (f : Figures). figures_woken x.id x.to at f) came
     ∙ ap (λ (t : ℕ). figures_woken x.id x.to t (comes x.id x.to t (figures_asked x.processor x.decision (figures_read x.processor x.now x.self.now)))) is
 

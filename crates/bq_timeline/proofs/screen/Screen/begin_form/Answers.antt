@@ -9,7 +9,7 @@ use Rattle.bq_timeline.proofs.screen.Screen.begin_form.Goals as goal
 pub returns-clause-form : goal.returns-clause-form
 returns-clause-form c =
     let old = c.args.self.now in
-    let rest = c.begin_near.ensures.rest in
+    let rest = c.begin_bounds.ensures.rest in
     let made = c.form_of.ensures.rest in
     record {
       shown = stays_asked c.args.settings old.names _ _ c.in_ok-shown.ensures.form c.begin.ensures.stays;
@@ -24,7 +24,7 @@ returns-clause-form c =
 
 pub returns-clause-text : goal.returns-clause-text
 returns-clause-text c =
-    let rest = c.begin_near.ensures.rest in
+    let rest = c.begin_bounds.ensures.rest in
     let made = c.form_of.ensures.rest in
     let text = ap (λ (s : Screen). string_bytes s.text) rest ∙ ap (λ (s : Screen). string_bytes s.text) made in
     record {
@@ -36,7 +36,7 @@ returns-clause-text c =
           subst (λ (before : List ℕ). FormOpens c.args.discipline c.args.schedule.now c.in_ok-shown.shown c.begin.new.self before (string_bytes c.begin.new.text))
           text c.in_ok-begin.ensures.opens;
       shown = refl;
-      table = c.in_ok-begin_near.ensures.table;
+      table = c.in_ok-begin_bounds.ensures.table;
       rest = (
         ap (λ (s : Screen). s.names) rest ∙ ap (λ (s : Screen). s.names) made,
         ap (λ (s : Screen). s.discipline) rest ∙ ap (λ (s : Screen). s.discipline) made,
