@@ -88,11 +88,11 @@ pub fn visit(
         ask(state, insn)?;
         return Ok(true);
     }
-    go_on(alloc, subject, slot, insn, state, pending)
+    visit_uncounted(alloc, subject, slot, insn, state, pending)
 }
 
 /// Visits a slot as `visit` does, if its instruction calls no counter.
-fn go_on(
+fn visit_uncounted(
     alloc: Global,
     subject: &SubjectView,
     slot: usize,
@@ -216,7 +216,7 @@ fn branch(
         right: right_side(test.width, test.cond, left, right, false),
         relation: test.relation(false),
     };
-    Ok(carry_on(state, other))
+    Ok(keep_on_side(state, other))
 }
 
 /// If control goes to this side, the abstract state waits at its slot, with what is known of both operands there.
@@ -251,7 +251,7 @@ fn wait_on_side(
 }
 
 /// If control goes to this side, the abstract state is transferred on, with what is known of both operands there.
-fn carry_on(state: &mut AbstractState, learnt: Learnt) -> bool
+fn keep_on_side(state: &mut AbstractState, learnt: Learnt) -> bool
     requires { learnt.dst < REGISTERS }
     ensures contains { (f : Setting) (s : State) → IsOnSide f state.old learnt.dst learnt.src learnt.left learnt.right learnt.relation s → (result ≡ true) × Contains f state.new s }
     ensures has { (x : Fact) → HasOnSide x state.old learnt.dst learnt.left → result ≡ true → Has x state.new }

@@ -14,11 +14,11 @@ pub returns-clause-parts : goal.returns-clause-parts
 returns-clause-parts c = λ f s shapes contains.
     let operand = c.in-Some.ensures.finds f s contains in
     parts_of f s c.args.state.now c.args.test.width c.args.test.cond c.args.test.dst c.args.test.src c.args.to c.args.next
-    (IsKnown c.wait_on_side.new.pending c.carry_on.new.state c.carry_on.result c.args.next) c.in-Some-known.left
+    (IsKnown c.wait_on_side.new.pending c.keep_on_side.new.state c.keep_on_side.result c.args.next) c.in-Some-known.left
     c.in-Some.right c.in_ok-yes.yes c.in_ok-no.no c.right_side.result c.right_side-2.result c.in-Some-known.ensures operand.0
     operand.1 operand.2 c.in_ok-yes.ensures.fits c.in_ok-no.ensures.fits c.right_side.ensures c.right_side-2.ensures
     (λ t at side. inl (c.in_ok-wait_on_side.ensures.added f t shapes at (rw c.relation.ensures side)))
-    (λ t at side. let on = c.carry_on.ensures.contains f t (rw c.relation-2.ensures side) in inr (on.0, at, on.1)) contains
+    (λ t at side. let on = c.keep_on_side.ensures.contains f t (rw c.relation-2.ensures side) in inr (on.0, at, on.1)) contains
 
 pub returns-clause-sure : goal.returns-clause-sure
 returns-clause-sure c = λ scalar operand x k waits yes_side no_side.
@@ -34,7 +34,7 @@ returns-clause-sure c = λ scalar operand x k waits yes_side no_side.
           (c.in_ok-yes.ensures.number left right) so.2);
       transferred = λ live same.
           let so = no_side same in
-          c.carry_on.ensures.has x (has_on_side x c.args.state.now c.args.test.dst c.in_ok-no.no there so.0 so.1 scalar
+          c.keep_on_side.ensures.has x (has_on_side x c.args.state.now c.args.test.dst c.in_ok-no.no there so.0 so.1 scalar
           (c.in_ok-no.ensures.number left right) so.2) live;
     }
 
@@ -50,7 +50,7 @@ returns-clause-checked c = λ map tested x k waits yes_side no_side.
           has_on_tested x c.args.state.now c.args.test.dst map (is_found c.args.test.cond true) c.in_ok-yes.yes there
           (c.in_ok-yes.ensures.tested map tested.0 left) (yes_side same));
       transferred = λ live same.
-          c.carry_on.ensures.has x (has_on_tested x c.args.state.now c.args.test.dst map (is_found c.args.test.cond false)
+          c.keep_on_side.ensures.has x (has_on_tested x c.args.state.now c.args.test.dst map (is_found c.args.test.cond false)
           c.in_ok-no.no there (c.in_ok-no.ensures.tested map tested.0 left) (no_side same)) live;
     }
 

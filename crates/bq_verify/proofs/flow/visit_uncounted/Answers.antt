@@ -23,7 +23,7 @@ use Rattle.bq_bpf.specs.Instructions.{Leaves}
 use Rattle.bq_verify.proofs.EdgeLemmas.{start_inside}
 use Rattle.bq_verify.specs.Control.{IsKnown}
 use Rattle.bq_verify.proofs.PassLemmas.{goes_apart, goes_on, goes_there, goes_far}
-use Rattle.bq_verify.proofs.flow.go_on.Goals as goal
+use Rattle.bq_verify.proofs.flow.visit_uncounted.Goals as goal
 
 pub returns-in_ok-wait-in-Goto-clause-goes : goal.returns-in_ok-wait-in-Goto-clause-goes
 returns-in_ok-wait-in-Goto-clause-goes c =
