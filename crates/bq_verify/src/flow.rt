@@ -185,10 +185,10 @@ fn branch(
     ensures kept { OnOk result (KeepsWaiting shapes.now pending.old pending.new) }
     ensures parts { IfOk result (λ live. BranchesFrom (IsKnown pending.new state.new live next) shapes.now state.old test.width test.cond test.dst test.src to next) }
     ensures obligations { IfErr result (λ stop. (insn : Insn) → ReadsOperand insn → UsesWord insn → MayStop stop insn) }
-    ensures accepts { test.dst < 10 → CertaintyHoldsAt Scalar state.old test.dst → IsScalarOperand state.old test.src → IfErr result IsWantOfMemory }
-    ensures checks { (map : ℕ) → test.dst < 10 → IsAnswerCheck state.old map test.width test.cond test.dst test.src → IfErr result IsWantOfMemory }
-    ensures checked { IfOk result (BranchesChecked state.old test.width test.cond test.dst test.src to next pending.old pending.new state.new) }
-    ensures sure { CertaintyHoldsAt Scalar state.old test.dst → IsScalarOperand state.old test.src → IfOk result (BranchesTested state.old test.dst to next pending.old pending.new state.new) }
+    ensures number_test_accepted { test.dst < 10 → CertaintyHoldsAt Scalar state.old test.dst → IsScalarOperand state.old test.src → IfErr result IsWantOfMemory }
+    ensures null_check_accepted { (map : ℕ) → test.dst < 10 → IsAnswerCheck state.old map test.width test.cond test.dst test.src → IfErr result IsWantOfMemory }
+    ensures null_check_known { IfOk result (BranchesChecked state.old test.width test.cond test.dst test.src to next pending.old pending.new state.new) }
+    ensures number_test_known { CertaintyHoldsAt Scalar state.old test.dst → IsScalarOperand state.old test.src → IfOk result (BranchesTested state.old test.dst to next pending.old pending.new state.new) }
 {
     let Some(right) = operand(state, test.src) else {
         return Err(PassStop::Unproven(Obligation::Unset));

@@ -20,8 +20,8 @@ returns-clause-parts c = λ f s shapes contains.
     (λ t at side. inl (c.in_ok-wait_on_side.ensures.added f t shapes at (rw c.relation.ensures side)))
     (λ t at side. let on = c.keep_on_side.ensures.contains f t (rw c.relation-2.ensures side) in inr (on.0, at, on.1)) contains
 
-pub returns-clause-sure : goal.returns-clause-sure
-returns-clause-sure c = λ scalar operand x k waits yes_side no_side.
+pub returns-clause-number_test_known : goal.returns-clause-number_test_known
+returns-clause-number_test_known c = λ scalar operand x k waits yes_side no_side.
     let there = known_inside c.args.state.now.registers c.args.test.dst c.in-Some-known.left c.in-Some-known.ensures in
     let left : c.in-Some-known.left.kind ≡ Number =
     subst (λ (v : Option AbstractValue). CertaintyHolds Scalar v) (sym c.in-Some-known.ensures) scalar in
@@ -38,8 +38,8 @@ returns-clause-sure c = λ scalar operand x k waits yes_side no_side.
           (c.in_ok-no.ensures.number left right) so.2) live;
     }
 
-pub returns-clause-checked : goal.returns-clause-checked
-returns-clause-checked c = λ map tested x k waits yes_side no_side.
+pub returns-clause-null_check_known : goal.returns-clause-null_check_known
+returns-clause-null_check_known c = λ map tested x k waits yes_side no_side.
     let there = known_inside c.args.state.now.registers c.args.test.dst c.in-Some-known.left c.in-Some-known.ensures in
     let left : CertaintyHolds (Pointer (EntryOrNull map) 0) (Some c.in-Some-known.left) =
     subst (λ (v : Option AbstractValue). CertaintyHolds (Pointer (EntryOrNull map) 0) v)
@@ -54,24 +54,24 @@ returns-clause-checked c = λ map tested x k waits yes_side no_side.
           c.in_ok-no.no there (c.in_ok-no.ensures.tested map tested.0 left) (no_side same)) live;
     }
 
-pub returns-in_default-clause-accepts : goal.returns-in_default-clause-accepts
-returns-in_default-clause-accepts c = λ below scalar operand. absurd (c.in_default.ensures.scalar operand)
+pub returns-in_default-clause-number_test_accepted : goal.returns-in_default-clause-number_test_accepted
+returns-in_default-clause-number_test_accepted c = λ below scalar operand. absurd (c.in_default.ensures.scalar operand)
 
-pub returns-in_default-known-clause-accepts : goal.returns-in_default-known-clause-accepts
-returns-in_default-known-clause-accepts c = λ below scalar operand.
+pub returns-in_default-known-clause-number_test_accepted : goal.returns-in_default-known-clause-number_test_accepted
+returns-in_default-known-clause-number_test_accepted c = λ below scalar operand.
     absurd (subst (λ (v : Option AbstractValue). CertaintyHolds Scalar v) (sym c.in_default-known.ensures) scalar)
 
-pub returns-then-test-ge10-clause-accepts : goal.returns-then-test-ge10-clause-accepts
-returns-then-test-ge10-clause-accepts c = λ below scalar operand. absurd (omega arith)
+pub returns-then-test-ge10-clause-number_test_accepted : goal.returns-then-test-ge10-clause-number_test_accepted
+returns-then-test-ge10-clause-number_test_accepted c = λ below scalar operand. absurd (omega arith)
 
-pub returns-in_err-yes-clause-accepts : goal.returns-in_err-yes-clause-accepts
-returns-in_err-yes-clause-accepts c = λ below scalar operand.
+pub returns-in_err-yes-clause-number_test_accepted : goal.returns-in_err-yes-clause-number_test_accepted
+returns-in_err-yes-clause-number_test_accepted c = λ below scalar operand.
     let left : c.in-Some-known.left.kind ≡ Number =
     subst (λ (v : Option AbstractValue). CertaintyHolds Scalar v) (sym c.in-Some-known.ensures) scalar in
     absurd (false≢true (c.in_err-yes.ensures.accepts left (c.in-Some.ensures.scalar operand)))
 
-pub returns-in_err-yes-clause-checks : goal.returns-in_err-yes-clause-checks
-returns-in_err-yes-clause-checks c = λ map below tested.
+pub returns-in_err-yes-clause-null_check_accepted : goal.returns-in_err-yes-clause-null_check_accepted
+returns-in_err-yes-clause-null_check_accepted c = λ map below tested.
     let left : CertaintyHolds (Pointer (EntryOrNull map) 0) (Some c.in-Some-known.left) =
     subst (λ (v : Option AbstractValue). CertaintyHolds (Pointer (EntryOrNull map) 0) v)
     (sym c.in-Some-known.ensures) tested.1 in
@@ -82,14 +82,14 @@ returns-in_err-yes-clause-obligations c =
     let error = err_from_is_err_and c.from_residual.result c.from_residual.ensures.1 in
     rw (error.1, error.2) (λ insn reads uses. c.in_err-yes.ensures.obligations insn uses)
 
-pub returns-in_err-no-clause-accepts : goal.returns-in_err-no-clause-accepts
-returns-in_err-no-clause-accepts c = λ below scalar operand.
+pub returns-in_err-no-clause-number_test_accepted : goal.returns-in_err-no-clause-number_test_accepted
+returns-in_err-no-clause-number_test_accepted c = λ below scalar operand.
     let left : c.in-Some-known.left.kind ≡ Number =
     subst (λ (v : Option AbstractValue). CertaintyHolds Scalar v) (sym c.in-Some-known.ensures) scalar in
     absurd (false≢true (c.in_err-no.ensures.accepts left (c.in-Some.ensures.scalar operand)))
 
-pub returns-in_err-no-clause-checks : goal.returns-in_err-no-clause-checks
-returns-in_err-no-clause-checks c = λ map below tested.
+pub returns-in_err-no-clause-null_check_accepted : goal.returns-in_err-no-clause-null_check_accepted
+returns-in_err-no-clause-null_check_accepted c = λ map below tested.
     let left : CertaintyHolds (Pointer (EntryOrNull map) 0) (Some c.in-Some-known.left) =
     subst (λ (v : Option AbstractValue). CertaintyHolds (Pointer (EntryOrNull map) 0) v)
     (sym c.in-Some-known.ensures) tested.1 in
@@ -105,6 +105,6 @@ returns-in_err-wait_on_side-clause-obligations c =
     let error = err_from_is_err_and c.from_residual-in_err-wait_on_side.result c.from_residual-in_err-wait_on_side.ensures.1 in
     rw (error.1, error.2) (λ insn reads uses. tt)
 
-pub returns-in_default-known-clause-checks : goal.returns-in_default-known-clause-checks
-returns-in_default-known-clause-checks c = λ map below tested.
+pub returns-in_default-known-clause-null_check_accepted : goal.returns-in_default-known-clause-null_check_accepted
+returns-in_default-known-clause-null_check_accepted c = λ map below tested.
     absurd (subst (λ (v : Option AbstractValue). CertaintyHolds (Pointer (EntryOrNull map) 0) v) (sym c.in_default-known.ensures) tested.1)
