@@ -23,7 +23,7 @@ use bq_bpf::instruction::is_counter_call;
 use bq_insn::{Condition, Insn, SLOTS, Source, Width};
 use bq_states::abstract_state::{AbstractState, AbstractValue, ValueKind};
 use bq_states::learnt::learn_branch;
-use bq_states::registers::{known, operand};
+use bq_states::registers::{FRAME_REGISTER, known, operand};
 use bq_states::relations::Relation;
 use bq_transfer::counters::ask;
 use bq_transfer::obligation::Obligation;
@@ -196,7 +196,7 @@ fn branch(
     let Some(left) = known(state, test.dst) else {
         return Err(PassStop::Unproven(Obligation::Unset));
     };
-    if test.dst >= 10 {
+    if test.dst >= FRAME_REGISTER {
         return Err(PassStop::Unproven(Obligation::PointerUse));
     }
     let yes = side(test.width, test.cond, left, test.src, right, true)?;

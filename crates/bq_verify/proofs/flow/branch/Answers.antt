@@ -61,8 +61,8 @@ pub returns-in_default-known-clause-number_test_accepted : goal.returns-in_defau
 returns-in_default-known-clause-number_test_accepted c = λ below scalar operand.
     absurd (subst (λ (v : Option AbstractValue). CertaintyHolds Scalar v) (sym c.in_default-known.ensures) scalar)
 
-pub returns-then-test-ge10-clause-number_test_accepted : goal.returns-then-test-ge10-clause-number_test_accepted
-returns-then-test-ge10-clause-number_test_accepted c = λ below scalar operand. absurd (omega arith)
+pub returns-then-test-ge-FRAME_REGISTER-clause-number_test_accepted : goal.returns-then-test-ge-FRAME_REGISTER-clause-number_test_accepted
+returns-then-test-ge-FRAME_REGISTER-clause-number_test_accepted c = λ below scalar operand. absurd (omega arith)
 
 pub returns-in_err-yes-clause-number_test_accepted : goal.returns-in_err-yes-clause-number_test_accepted
 returns-in_err-yes-clause-number_test_accepted c = λ below scalar operand.
