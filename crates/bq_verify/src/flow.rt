@@ -154,7 +154,7 @@ fn visit_uncounted(
     }
 }
 
-/// Visits an EXIT: its answer must be a number.
+/// Visits an EXIT. The error is that its answer is not shown to be a number.
 fn visit_exit(state: &AbstractState) -> Result<(), Obligation>
     ensures answers { OnOk result ((f : Setting) (s : State) → Contains f state.now s → (answer : ℕ) × (s.register 0 ≡ Some answer)) }
     ensures obligations { IfErr result (λ obligation. MayBeUnproven obligation Insn.Exit) }
@@ -170,7 +170,7 @@ fn visit_exit(state: &AbstractState) -> Result<(), Obligation>
 }
 
 /// Visits a branch: the abstract state of the side where it is taken waits at its target, and the other side is
-/// transferred on.
+/// transferred on. The result says whether control may go to that other side.
 fn branch(
     alloc: Global,
     shapes: &[MapShape],
@@ -250,7 +250,8 @@ fn wait_on_side(
     wait(alloc, shapes, pending, slot, &there)
 }
 
-/// If control goes to this side, the abstract state is transferred on, with what is known of both operands there.
+/// If control goes to this side, the abstract state is transferred on, with what is known of both operands there. The result says
+/// whether control goes there.
 fn keep_on_side(state: &mut AbstractState, learnt: Learnt) -> bool
     requires { learnt.dst < REGISTERS }
     ensures contains { (f : Setting) (s : State) → IsOnSide f state.old learnt.dst learnt.src learnt.left learnt.right learnt.relation s → (result ≡ true) × Contains f state.new s }

@@ -45,7 +45,7 @@ pub fn judge(alloc: Global, subject: &SubjectView, heights: &[u32]) -> Result<()
     Ok(())
 }
 
-/// Makes the pass over all slots.
+/// Makes the pass over all slots. The error says where it stopped, or that memory ran out.
 fn pass(
     alloc: Global,
     subject: &SubjectView,

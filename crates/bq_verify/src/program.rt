@@ -42,7 +42,7 @@ fn no_counts(alloc: Global, count: usize) -> Result<Vec<Option<u32>>, AllocError
     vec![in alloc; None; count]
 }
 
-/// Checks the control graph.
+/// Checks the control graph. The error names the fault that the checks find first, or says that memory ran out.
 pub(crate) fn check_graph(alloc: Global, slots: &[Option<Insn>]) -> Result<(), Refused>
     requires some { 0 < length slots.now }
     requires short { length slots.now ≤ SLOTS }
