@@ -33,7 +33,7 @@ FACTS = [
     ('the text of a refused event', r'"(?:refused )?C\d+ ', {'bq_parts/src/refusal.rt'}),
     ('what is no number of processors', r'is no number of processors', {'bq_words/src/quantities.rt'}),
     ('the first words of instructions', r'\bjsle64\b|\bsmod32\b', {'bq_asm/src/table.rt'}),
-    ('an exit status', r'u8 = [1-4];', {'bq_console/src/status.rt'}),
+    ('an exit status', r'(?<!_REGISTER: )u8 = [1-4];', {'bq_console/src/status.rt'}),
     ('the longest duration', r'281_?474_?976_?710_?655', set()),
     ('how many tasks there may be', r'(?<!NAME: usize) = 1_?024;|\.\.1_?024\b|>= 1_?024\b', {'bq_disc/src/limits.rt', 'bq_weights/src/lib.rt'}),
     ('from which to which nice values are', r'(?:[<>=]=? |\()-20\b|\b19 ?>=|<=? ?19\b', {'bq_weights/src/lib.rt'}),

@@ -20,7 +20,7 @@ use Rattle.bq_states.specs.declared.abstract_state.AbstractState.{AbstractState}
 use Rattle.bq_needs.specs.Needs.{IsNeed}
 use Rattle.bq_needs.specs.declared.needs.Need.{Need}
 use Rattle.bq_explain.specs.Explained.{AreAsked, AreMade, IsFinding, IsOfState, IsOfVerifier, IsPlaceOfSlot, IsRefusalOf}
-use Rattle.bq_explain.specs.declared.place.Place.{Place}
+use Rattle.bq_explain.specs.declared.program_point.ProgramPoint.{ProgramPoint}
 use Rattle.bq_explain.specs.declared.refusal.Finding.TheVariants as finding
 use Rattle.bq_explain.specs.declared.refusal.ExplainedRefusal.{ExplainedRefusal}
 use Rattle.bq_explain.specs.declared.trail.Made.{Made}
@@ -72,7 +72,7 @@ nothing_made slots slot made none one there =
     absurd (let less = (subst (λ (l : List Made). Contains l one) none there).1 in let no : ⊥ = omega arith in no)
 
 -- a refusal for a fault of the control graph
-pub refusal_of_graph : {E : Type 0} (p : PolicySource) (slot : ℕ) (named : GraphCause) (place : Place) (r : Result ExplainedRefusal E)
+pub refusal_of_graph : {E : Type 0} (p : PolicySource) (slot : ℕ) (named : GraphCause) (place : ProgramPoint) (r : Result ExplainedRefusal E)
     → IsPlaceOfSlot (spread p.insns.items) slot place → IfOk r (λ refusal. refusal.place ≡ place)
     → IfOk r (λ refusal. refusal.cause ≡ cause.Graph named)
     → IfOk r (λ refusal. (p : PolicySource) (slot : ℕ) → IsFinding p slot place.insn (cause.Graph named) refusal.finding)
@@ -80,9 +80,9 @@ pub refusal_of_graph : {E : Type 0} (p : PolicySource) (slot : ℕ) (named : Gra
     → IfOk r (IsRefusalOf p slot (cause.Graph named))
 refusal_of_graph p slot named place (Err e) at same is finds none = tt
 refusal_of_graph p slot named place (Ok refusal) at same is finds none = record {
-  place = subst (λ (q : Place). IsPlaceOfSlot (spread p.insns.items) slot q) (sym same) at;
+  place = subst (λ (q : ProgramPoint). IsPlaceOfSlot (spread p.insns.items) slot q) (sym same) at;
   cause_is = is;
-  finds = subst (λ (q : Place). IsFinding p slot q.insn (cause.Graph named) refusal.finding) (sym same) (finds p slot);
+  finds = subst (λ (q : ProgramPoint). IsFinding p slot q.insn (cause.Graph named) refusal.finding) (sym same) (finds p slot);
   asked = [];
   are_asked = λ r of. absurd (false≢true of);
   made = nothing_made (spread p.insns.items) slot refusal.trail.made.items none;
@@ -90,17 +90,17 @@ refusal_of_graph p slot named place (Ok refusal) at same is finds none = record 
 
 -- a refusal for what is not shown of the states
 pub refusal_of_state : {E : Type 0} (p : PolicySource) (slot : ℕ) (named : Cause) (slots : List (Option Insn))
-    → slots ≡ spread p.insns.items → (place : Place) (r : Result ExplainedRefusal E) → IsPlaceOfSlot (spread p.insns.items) slot place
+    → slots ≡ spread p.insns.items → (place : ProgramPoint) (r : Result ExplainedRefusal E) → IsPlaceOfSlot (spread p.insns.items) slot place
     → IfOk r (λ refusal. refusal.place ≡ place) → IfOk r (λ refusal. refusal.cause ≡ named)
     → IfOk r (λ refusal. IsFinding p place.slot place.insn named refusal.finding)
     → IfOk r (λ refusal. (asked : List Bool) × AreAsked refusal.finding asked × AreMade slots place.slot asked refusal.trail.made.items)
     → IfOk r (IsRefusalOf p slot named)
 refusal_of_state p slot named slots laid place (Err e) at same is finds made = tt
 refusal_of_state p slot named slots laid place (Ok refusal) at same is finds made = record {
-  place = subst (λ (q : Place). IsPlaceOfSlot (spread p.insns.items) slot q) (sym same) at;
+  place = subst (λ (q : ProgramPoint). IsPlaceOfSlot (spread p.insns.items) slot q) (sym same) at;
   cause_is = is;
   finds =
-      subst (λ (q : Place). IsFinding p slot q.insn named refusal.finding) (sym same)
+      subst (λ (q : ProgramPoint). IsFinding p slot q.insn named refusal.finding) (sym same)
       (subst (λ (n : ℕ). IsFinding p n place.insn named refusal.finding) at.slot_is finds);
   asked = made.0;
   are_asked = made.1;

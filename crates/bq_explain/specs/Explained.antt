@@ -31,7 +31,7 @@ use Rattle.bq_explain.specs.declared.graph_fault.GraphFault.{GraphFault}
 use Rattle.bq_explain.specs.declared.graph_fault.GraphFault.TheVariants as fault
 use Rattle.bq_explain.specs.declared.limits.Limits.{Limits}
 use Rattle.bq_explain.specs.declared.makers.Maker.{Maker}
-use Rattle.bq_explain.specs.declared.place.Place.{Place}
+use Rattle.bq_explain.specs.declared.program_point.ProgramPoint.{ProgramPoint}
 use Rattle.bq_explain.specs.declared.refusal.Finding.{Finding}
 use Rattle.bq_explain.specs.declared.refusal.Finding.TheVariants as finding
 use Rattle.bq_explain.specs.declared.refusal.ExplainedRefusal.{ExplainedRefusal}
@@ -40,7 +40,7 @@ use Rattle.bq_explain.specs.declared.verdict.Verdict.{Verdict}
 use Rattle.bq_explain.specs.declared.verdict.Verdict.TheVariants.{Accepted, Refused}
 
 -- the place is that of the instruction at the slot
-pub record IsPlaceOfSlot (slots : List (Option Insn)) (slot : ℕ) (place : Place) : Type 0 where
+pub record IsPlaceOfSlot (slots : List (Option Insn)) (slot : ℕ) (place : ProgramPoint) : Type 0 where
   pub slot_is : place.slot ≡ slot
   pub here : instruction_at slots slot ≡ Some place.insn
 

@@ -7,9 +7,9 @@ use Rattle.bq_asm.specs.Text.{line_body}
 use Rattle.bq_bpf.specs.declared.shape.MapShape.{MapShape}
 use Rattle.bq_states.specs.declared.abstract_state.AbstractValue.{AbstractValue}
 use Rattle.bq_needs.specs.Texts.{known_text}
-use Rattle.bq_explain.specs.declared.meeting.Coming.{Coming}
-use Rattle.bq_explain.specs.declared.meeting.Meeting.{Meeting}
-use Rattle.bq_explain.specs.declared.place.Place.{Place}
+use Rattle.bq_explain.specs.declared.join_point.Coming.{Coming}
+use Rattle.bq_explain.specs.declared.join_point.JoinPoint.{JoinPoint}
+use Rattle.bq_explain.specs.declared.program_point.ProgramPoint.{ProgramPoint}
 use Rattle.bq_explain.specs.declared.trail.Made.{Made}
 use Rattle.bq_explain.specs.declared.trail.Trail.{Trail}
 
@@ -19,11 +19,11 @@ slot_text None slot = codes "slot " ++ decimal slot
 slot_text (Some line) slot = codes "line " ++ (decimal line ++ (codes ", slot " ++ decimal slot))
 
 -- the place of an instruction, by its slot
-abbrev pub place_text : Place → List ℕ
+abbrev pub place_text : ProgramPoint → List ℕ
 place_text place = slot_text place.line place.slot
 
 -- the place of an instruction, and the instruction as a listing has it
-abbrev pub place_line : Place → List ℕ
+abbrev pub place_line : ProgramPoint → List ℕ
 place_line place = place_text place ++ (codes ":  " ++ line_body place.insn)
 
 -- the text ends with that one
@@ -70,7 +70,7 @@ met_text shapes None = codes "nothing is known of it"
 met_text shapes (Some k) = codes "it is " ++ known_text shapes k
 
 -- the line of two ways that meet
-abbrev pub meeting_text : List MapShape → Meeting → List ℕ
+abbrev pub meeting_text : List MapShape → JoinPoint → List ℕ
 meeting_text shapes meeting =
     codes "  r" ++ (decimal meeting.register ++ (codes " is " ++ (coming_text shapes meeting.first ++ (codes ", and " ++ (coming_text shapes meeting.second
     ++ (codes "; where they meet, at slot " ++ (decimal meeting.slot ++ (codes ", " ++ (met_text shapes meeting.known ++ codes "\n")))))))))

@@ -92,7 +92,7 @@ pub(crate) fn sides_of(states: &KnownStates, slot: usize, insn: Insn) -> Sides {
 
 /// What a branch asks.
 #[derive(Clone, Copy)]
-struct Test {
+struct BranchTest {
     width: Width,
     cond: Condition,
     dst: u8,
@@ -100,7 +100,7 @@ struct Test {
 }
 
 /// What the instruction asks, if it is a branch.
-fn test_of(insn: Insn) -> Option<Test> {
+fn test_of(insn: Insn) -> Option<BranchTest> {
     match insn {
         Insn::Branch {
             width,
@@ -108,7 +108,7 @@ fn test_of(insn: Insn) -> Option<Test> {
             dst,
             src,
             ..
-        } => Some(Test {
+        } => Some(BranchTest {
             width,
             cond,
             dst,
@@ -119,7 +119,7 @@ fn test_of(insn: Insn) -> Option<Test> {
 }
 
 /// Whether a run may pass the test that way; then the state is the one after it.
-fn passes(state: &mut AbstractState, test: Test, is_taken: bool) -> bool {
+fn passes(state: &mut AbstractState, test: BranchTest, is_taken: bool) -> bool {
     if test.dst >= 10 {
         return false;
     }

@@ -3,7 +3,7 @@ ghost use Rattle.std.specs.Prelude.{IfOk};
 ghost use Rattle.bq_explain.specs.Explained.{Explains, IsDetail, IsOfVerifier};
 
 use crate::limits::Limits;
-use crate::place::{Place, call_of};
+use crate::program_point::{ProgramPoint, call_of};
 use crate::refusal::{ExplainedRefusal, refusal_of};
 use crate::summary::{Summary, summary_of};
 use crate::verdict::{Verdict, judge};
@@ -25,7 +25,7 @@ pub enum Detail {
     /// Of a policy that is accepted: what it uses.
     Accepted(Summary),
     /// Of a policy that is safe and beyond a limit: the first call that is not allowed, if that is the limit.
-    Limited(Option<Place>),
+    Limited(Option<ProgramPoint>),
     /// The verifier refuses the policy: the place and the reason.
     Refused(ExplainedRefusal),
 }

@@ -2,7 +2,7 @@
 ghost use Rattle.std.specs.Prelude.{◌≡◌};
 ghost use Rattle.bq_explain.specs.Explained.{graph_cause_of};
 
-use crate::place::line_at;
+use crate::program_point::line_at;
 use bq_bpf::instruction::distance;
 use bq_bpf::{with_helper_numbers, with_most_calls};
 use bq_insn::Insn;

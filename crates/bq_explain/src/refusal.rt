@@ -10,7 +10,7 @@ ghost use Rattle.bq_explain.specs.Verdicts.{IsRefusedPolicy};
 
 use crate::advice::{Advice, graph_advice, only, state_advice};
 use crate::graph_fault::{GraphFault, graph_fault, label_on};
-use crate::place::{Place, place_at};
+use crate::program_point::{ProgramPoint, place_at};
 use crate::trail::{Trail, no_trail, trail_of};
 use bq_insn::{Insn, REGISTERS};
 use bq_needs::{Argument, Need, Registers, need_of};
@@ -24,7 +24,7 @@ use std::alloc::{AllocError, Global};
 #[derive(Drop)]
 pub struct ExplainedRefusal {
     /// The instruction at which it does.
-    pub place: Place,
+    pub place: ProgramPoint,
     pub cause: Cause,
     /// What is wrong there.
     pub finding: Finding,
@@ -73,7 +73,7 @@ fn graph_refusal(
     alloc: Global,
     file: &[u8],
     slots: &[Option<Insn>],
-    place: Place,
+    place: ProgramPoint,
     named: GraphCause,
 ) -> Result<ExplainedRefusal, AllocError>
     ensures place { IfOk result (λ refusal. refusal.place ≡ place) }
@@ -98,7 +98,7 @@ fn graph_refusal(
 fn label_of(
     alloc: Global,
     file: &[u8],
-    place: Place,
+    place: ProgramPoint,
     named: GraphCause,
 ) -> Result<Option<String>, AllocError> {
     match (named, label_on(file, place.line)) {
@@ -112,7 +112,7 @@ fn state_refusal(
     alloc: Global,
     policy: &PolicySource,
     slots: &[Option<Insn>],
-    place: Place,
+    place: ProgramPoint,
     cause: Cause,
 ) -> Result<ExplainedRefusal, AllocError>
     requires slots { slots.now ≡ spread policy.now.insns.items }
@@ -141,7 +141,12 @@ fn state_refusal(
 }
 
 /// What is known before the instruction, and the need that it does not give.
-fn finding_of(policy: &PolicySource, states: &KnownStates, place: Place, cause: Cause) -> Finding
+fn finding_of(
+    policy: &PolicySource,
+    states: &KnownStates,
+    place: ProgramPoint,
+    cause: Cause,
+) -> Finding
     requires known { AreKnown (subject_in policy.now) place.slot states.now }
     requires inside { place.slot < length (spread policy.now.insns.items) }
     requires of_state { IsOfState cause }

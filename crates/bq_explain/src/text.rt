@@ -10,7 +10,7 @@ use crate::advice_words::advice_text;
 use crate::explanation::{Detail, Explanation};
 use crate::graph_fault::graph_text;
 use crate::limits::Over;
-use crate::place::{Place, instruction_line};
+use crate::program_point::{ProgramPoint, instruction_line};
 use crate::refusal::{ExplainedRefusal, Finding};
 use crate::state_words::state_text;
 use crate::summary::{accepted_words, summary_text};
@@ -82,7 +82,7 @@ fn limit_text(
     alloc: Global,
     name: Option<&str>,
     verdict: Verdict,
-    place: &Option<Place>,
+    place: &Option<ProgramPoint>,
 ) -> Result<String, AllocError> {
     match (verdict, place) {
         (Verdict::OverSteps { budget, most }, _) => format!(in alloc;

@@ -5,9 +5,9 @@ ghost use Rattle.bq_explain.specs.Explained.{AreMade, AreOf, IsMadeBy};
 ghost use Rattle.bq_explain.specs.Makers.{CanBeWalked};
 ghost use Rattle.bq_explain.specs.TrailTexts.{leaves_unset};
 
+use crate::join_point::{JoinPoint, join_point_of, known_at, known_behind};
 use crate::makers::{Maker, makers, trail};
-use crate::meeting::{Meeting, known_at, known_behind, meeting_of};
-use crate::place::{Place, place_at};
+use crate::program_point::{ProgramPoint, place_at};
 use crate::ways::{Ways, is_marked, reaching, spares, ways_before};
 use bq_insn::{Insn, REGISTERS, SLOTS};
 use bq_needs::{Registers, read_registers};
@@ -32,7 +32,7 @@ pub struct Trail {
     /// The registers among them that a call leaves unset on some way.
     pub left: Clobbered,
     /// The places where ways meet that bring different words into one of the registers, or into what a maker reads; three at most.
-    pub meetings: Vec<Meeting>,
+    pub meetings: Vec<JoinPoint>,
 }
 
 /// Registers that calls leave unset.
@@ -47,7 +47,7 @@ pub struct Clobbered {
 /// An instruction that made a register.
 #[derive(Clone, Copy)]
 pub struct Made {
-    pub place: Place,
+    pub place: ProgramPoint,
     pub register: u8,
     /// What is known of the register after the instruction; None if a call leaves it unset.
     pub known: Option<AbstractValue>,
@@ -258,7 +258,7 @@ fn meetings(
     ways: &Ways,
     asked: Asked,
     made: &[Made],
-) -> Result<Vec<Meeting>, AllocError>
+) -> Result<Vec<JoinPoint>, AllocError>
     requires walkable { CanBeWalked slots.now }
 {
     let mut meetings = Vec::new(alloc);
@@ -290,7 +290,7 @@ fn push_meetings(
     states: &KnownStates,
     ways: &Ways,
     asked: Asked,
-    meetings: &mut Vec<Meeting>,
+    meetings: &mut Vec<JoinPoint>,
 ) -> Result<(), AllocError>
     requires walkable { CanBeWalked slots.now }
 {
@@ -301,7 +301,7 @@ fn push_meetings(
         if asked.registers[usize::from(register)] && meetings.len() < MEETINGS {
             let made = makers(alloc, slots, register, asked.slot)?;
             if made.len() >= asked.makers {
-                let met = meeting_of(alloc, policy, slots, states, ways, register, asked.slot)?;
+                let met = join_point_of(alloc, policy, slots, states, ways, register, asked.slot)?;
                 push_new(met, meetings)?;
             }
         }
@@ -310,7 +310,7 @@ fn push_meetings(
 }
 
 /// The meeting, if it is one, and none of these yet.
-fn push_new(met: Option<Meeting>, meetings: &mut Vec<Meeting>) -> Result<(), AllocError> {
+fn push_new(met: Option<JoinPoint>, meetings: &mut Vec<JoinPoint>) -> Result<(), AllocError> {
     let Some(met) = met else {
         return Ok(());
     };

@@ -2,8 +2,8 @@
 ghost use Rattle.std.specs.Prelude.{◌≡◌, IfOk, flat_map, string_bytes};
 ghost use Rattle.bq_explain.specs.TrailTexts.{coming_text, made_text, meeting_text, met_text, outcome_text, trail_text, unset_below, unset_text};
 
-use crate::meeting::{Coming, Meeting};
-use crate::place::place_text;
+use crate::join_point::{Coming, JoinPoint};
+use crate::program_point::place_text;
 use crate::trail::{Made, Trail};
 use bq_bpf::MapShape;
 use bq_insn::REGISTERS;
@@ -67,7 +67,7 @@ fn unset_text(alloc: Global, register: usize, is_unset: bool) -> Result<String, 
 fn meeting_lines(
     alloc: Global,
     shapes: &[MapShape],
-    meetings: &[Meeting],
+    meetings: &[JoinPoint],
 ) -> Result<String, AllocError>
     ensures { IfOk result (λ text. string_bytes text ≡ flat_map (meeting_text shapes.now) meetings.now) }
 {
@@ -105,7 +105,11 @@ fn outcome_text(alloc: Global, shapes: &[MapShape], made: &Made) -> Result<Strin
 }
 
 /// Says which two ways meet where, and what the register is on each.
-fn meeting_text(alloc: Global, shapes: &[MapShape], meeting: &Meeting) -> Result<String, AllocError>
+fn meeting_text(
+    alloc: Global,
+    shapes: &[MapShape],
+    meeting: &JoinPoint,
+) -> Result<String, AllocError>
     ensures { IfOk result (λ text. string_bytes text ≡ meeting_text shapes.now meeting.now) }
 {
     let register = meeting.register;

@@ -7,7 +7,7 @@ ghost use Rattle.bq_policy_check.specs.Showing.{of_accepted, of_limit, refusal_f
 use bq_bpf::MapShape;
 use bq_console::NO_TEXT;
 use bq_explain::{
-    ExplainedRefusal, Finding, Made, Place, Summary, Verdict, advice_text, need_words,
+    ExplainedRefusal, Finding, Made, ProgramPoint, Summary, Verdict, advice_text, need_words,
 };
 use bq_needs::known_text;
 use bq_policy_file::{PolicySource, instruction_text};
@@ -128,7 +128,7 @@ pub(crate) fn fields_of_refusal(
 /// The fields for a policy that exceeds a limit: the place of a call that is not allowed.
 pub(crate) fn fields_of_limit(
     alloc: Global,
-    place: &Option<Place>,
+    place: &Option<ProgramPoint>,
 ) -> Result<Map<String, Value>, AllocError> {
     let mut fields = Map::new(alloc);
     if let Some(place) = place {
@@ -165,7 +165,7 @@ fn put_number(
 fn put_place(
     fields: &mut Map<String, Value>,
     alloc: Global,
-    place: &Place,
+    place: &ProgramPoint,
 ) -> Result<(), AllocError> {
     put_number(fields, alloc, "slot", place.slot as u64)?;
     put_instruction(fields, alloc, place)
@@ -175,7 +175,7 @@ fn put_place(
 fn put_instruction(
     fields: &mut Map<String, Value>,
     alloc: Global,
-    place: &Place,
+    place: &ProgramPoint,
 ) -> Result<(), AllocError> {
     put(fields, alloc, "line", number_value(place.line))?;
     let insn = instruction_text(alloc, place.insn)?;

@@ -9,6 +9,12 @@ use crate::abstract_state::{AbstractState, AbstractValue, ValueKind};
 use bq_insn::{REGISTERS, Source};
 use bq_ranges::Range;
 
+/// The register that holds the address of the context when a run starts.
+pub const CONTEXT_REGISTER: u8 = 1;
+
+/// The register that holds the address of the stack's end. No instruction may write it.
+pub const FRAME_REGISTER: u8 = 10;
+
 /// What is known of an operand, if it is set.
 pub fn operand(state: &AbstractState, src: Source) -> Option<AbstractValue>
     ensures finds { IfSome result (FindsOperand state.now src) }

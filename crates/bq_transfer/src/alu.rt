@@ -101,7 +101,8 @@ pub fn alu(
     operate(state, width, op, dst, src)
 }
 
-/// Arithmetic that works on the word of the destination register.
+/// Changes the abstract state to the one after arithmetic that works on the word of the destination register. The error is the
+/// obligation that is left unproven.
 fn operate(
     state: &mut AbstractState,
     width: Width,

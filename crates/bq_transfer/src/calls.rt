@@ -115,7 +115,8 @@ pub fn call(
     Err(Obligation::Argument)
 }
 
-/// A look-up: register 1 is the reference of a map, and register 2 points to the number of an entry.
+/// Changes the abstract state to the one after a look-up. The error is that it is not shown that register 1 is the reference of a
+/// map and that register 2 points to the number of an entry.
 fn look_up(state: &mut AbstractState, shapes: &[MapShape], context: usize) -> Result<(), Obligation>
     requires context { context < 2 ^ 16 }
     ensures transfers { OnOk result (Transfers shapes.now context (Insn.Call LOOKUP) state.old state.new) }
@@ -141,7 +142,8 @@ fn look_up(state: &mut AbstractState, shapes: &[MapShape], context: usize) -> Re
     Ok(())
 }
 
-/// An update: registers 1 and 2 are as for a look-up, register 3 points to a value, and register 4 is 0.
+/// Changes the abstract state to the one after an update. The error is that it is not shown that registers 1 and 2 are as for a
+/// look-up, that register 3 points to a value, and that register 4 is 0.
 fn update(state: &mut AbstractState, shapes: &[MapShape], context: usize) -> Result<(), Obligation>
     requires context { context < 2 ^ 16 }
     ensures transfers { OnOk result (Transfers shapes.now context (Insn.Call UPDATE) state.old state.new) }

@@ -18,7 +18,8 @@ use bq_states::abstract_state::AbstractState;
 /// The number of the last counter.
 const LAST: u64 = COUNTERS as u64 - 1;
 
-/// An add: register 1 is a counter, and register 2 an amount.
+/// Changes the abstract state to the one after an add. The error is that it is not shown that register 1 is a counter and
+/// register 2 an amount.
 fn add(state: &mut AbstractState) -> Result<(), Obligation>
     ensures asks { OnOk result (AsksFrom (Insn.Call ADD_COUNTER) state.old state.new) }
     ensures accepts { IsAsking state.old ADD_COUNTER → IsOk result × IsAnswered state.old state.new }
@@ -34,7 +35,7 @@ fn add(state: &mut AbstractState) -> Result<(), Obligation>
     Ok(())
 }
 
-/// A read: register 1 is a counter.
+/// Changes the abstract state to the one after a read. The error is that it is not shown that register 1 is a counter.
 fn read(state: &mut AbstractState) -> Result<(), Obligation>
     ensures asks { OnOk result (AsksFrom (Insn.Call READ_COUNTER) state.old state.new) }
     ensures accepts { IsAsking state.old READ_COUNTER → IsOk result × IsAnswered state.old state.new }

@@ -18,7 +18,7 @@ use bq_bpf::MapShape;
 use bq_insn::Insn;
 use bq_states::abstract_state::AbstractState;
 
-/// The abstract state after the instruction.
+/// Changes the abstract state to the one after the instruction. The error is the obligation that is left unproven.
 #[tactic(auto, using(crate::proofs::TransferLemmas::transferring))]
 pub fn transfer(
     state: &mut AbstractState,

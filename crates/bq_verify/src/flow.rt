@@ -23,7 +23,7 @@ use bq_bpf::instruction::is_counter_call;
 use bq_insn::{Condition, Insn, SLOTS, Source, Width};
 use bq_states::abstract_state::{AbstractState, AbstractValue, ValueKind};
 use bq_states::learnt::learn_branch;
-use bq_states::registers::{known, operand};
+use bq_states::registers::{FRAME_REGISTER, known, operand};
 use bq_states::relations::Relation;
 use bq_transfer::counters::ask;
 use bq_transfer::obligation::Obligation;
@@ -88,11 +88,11 @@ pub fn visit(
         ask(state, insn)?;
         return Ok(true);
     }
-    go_on(alloc, subject, slot, insn, state, pending)
+    visit_uncounted(alloc, subject, slot, insn, state, pending)
 }
 
 /// Visits a slot as `visit` does, if its instruction calls no counter.
-fn go_on(
+fn visit_uncounted(
     alloc: Global,
     subject: &SubjectView,
     slot: usize,
@@ -154,7 +154,7 @@ fn go_on(
     }
 }
 
-/// Visits an EXIT: its answer must be a number.
+/// Visits an EXIT. The error is that its answer is not shown to be a number.
 fn visit_exit(state: &AbstractState) -> Result<(), Obligation>
     ensures answers { OnOk result ((f : Setting) (s : State) → Contains f state.now s → (answer : ℕ) × (s.register 0 ≡ Some answer)) }
     ensures obligations { IfErr result (λ obligation. MayBeUnproven obligation Insn.Exit) }
@@ -170,7 +170,7 @@ fn visit_exit(state: &AbstractState) -> Result<(), Obligation>
 }
 
 /// Visits a branch: the abstract state of the side where it is taken waits at its target, and the other side is
-/// transferred on.
+/// transferred on. The result says whether control may go to that other side.
 fn branch(
     alloc: Global,
     shapes: &[MapShape],
@@ -185,10 +185,10 @@ fn branch(
     ensures kept { OnOk result (KeepsWaiting shapes.now pending.old pending.new) }
     ensures parts { IfOk result (λ live. BranchesFrom (IsKnown pending.new state.new live next) shapes.now state.old test.width test.cond test.dst test.src to next) }
     ensures obligations { IfErr result (λ stop. (insn : Insn) → ReadsOperand insn → UsesWord insn → MayStop stop insn) }
-    ensures accepts { test.dst < 10 → CertaintyHoldsAt Scalar state.old test.dst → IsScalarOperand state.old test.src → IfErr result IsWantOfMemory }
-    ensures checks { (map : ℕ) → test.dst < 10 → IsAnswerCheck state.old map test.width test.cond test.dst test.src → IfErr result IsWantOfMemory }
-    ensures checked { IfOk result (BranchesChecked state.old test.width test.cond test.dst test.src to next pending.old pending.new state.new) }
-    ensures sure { CertaintyHoldsAt Scalar state.old test.dst → IsScalarOperand state.old test.src → IfOk result (BranchesTested state.old test.dst to next pending.old pending.new state.new) }
+    ensures number_test_accepted { test.dst < 10 → CertaintyHoldsAt Scalar state.old test.dst → IsScalarOperand state.old test.src → IfErr result IsWantOfMemory }
+    ensures null_check_accepted { (map : ℕ) → test.dst < 10 → IsAnswerCheck state.old map test.width test.cond test.dst test.src → IfErr result IsWantOfMemory }
+    ensures null_check_known { IfOk result (BranchesChecked state.old test.width test.cond test.dst test.src to next pending.old pending.new state.new) }
+    ensures number_test_known { CertaintyHoldsAt Scalar state.old test.dst → IsScalarOperand state.old test.src → IfOk result (BranchesTested state.old test.dst to next pending.old pending.new state.new) }
 {
     let Some(right) = operand(state, test.src) else {
         return Err(PassStop::Unproven(Obligation::Unset));
@@ -196,7 +196,7 @@ fn branch(
     let Some(left) = known(state, test.dst) else {
         return Err(PassStop::Unproven(Obligation::Unset));
     };
-    if test.dst >= 10 {
+    if test.dst >= FRAME_REGISTER {
         return Err(PassStop::Unproven(Obligation::PointerUse));
     }
     let yes = side(test.width, test.cond, left, test.src, right, true)?;
@@ -216,7 +216,7 @@ fn branch(
         right: right_side(test.width, test.cond, left, right, false),
         relation: test.relation(false),
     };
-    Ok(carry_on(state, other))
+    Ok(keep_on_side(state, other))
 }
 
 /// If control goes to this side, the abstract state waits at its slot, with what is known of both operands there.
@@ -250,8 +250,9 @@ fn wait_on_side(
     wait(alloc, shapes, pending, slot, &there)
 }
 
-/// If control goes to this side, the abstract state is transferred on, with what is known of both operands there.
-fn carry_on(state: &mut AbstractState, learnt: Learnt) -> bool
+/// If control goes to this side, the abstract state is transferred on, with what is known of both operands there. The result says
+/// whether control goes there.
+fn keep_on_side(state: &mut AbstractState, learnt: Learnt) -> bool
     requires { learnt.dst < REGISTERS }
     ensures contains { (f : Setting) (s : State) → IsOnSide f state.old learnt.dst learnt.src learnt.left learnt.right learnt.relation s → (result ≡ true) × Contains f state.new s }
     ensures has { (x : Fact) → HasOnSide x state.old learnt.dst learnt.left → result ≡ true → Has x state.new }

@@ -21,7 +21,7 @@ use bq_bpf::addresses::STACK_SIZE;
 use bq_insn::SLOTS;
 use bq_ranges::Range;
 use bq_states::abstract_state::{AbstractState, AbstractValue, StackPart, ValueKind};
-use bq_states::registers::set_register;
+use bq_states::registers::{CONTEXT_REGISTER, FRAME_REGISTER, set_register};
 use bq_states::relations::Related;
 use std::alloc::Global;
 
@@ -45,7 +45,7 @@ pub fn judge(alloc: Global, subject: &SubjectView, heights: &[u32]) -> Result<()
     Ok(())
 }
 
-/// Makes the pass over all slots.
+/// Makes the pass over all slots. The error says where it stopped, or that memory ran out.
 fn pass(
     alloc: Global,
     subject: &SubjectView,
@@ -107,7 +107,7 @@ pub(crate) fn start() -> AbstractState
     let mut state = blank();
     set_register(
         &mut state,
-        1,
+        CONTEXT_REGISTER,
         AbstractValue {
             kind: ValueKind::Context,
             offset: Range::single(0),
@@ -115,7 +115,7 @@ pub(crate) fn start() -> AbstractState
     );
     set_register(
         &mut state,
-        10,
+        FRAME_REGISTER,
         AbstractValue {
             kind: ValueKind::Stack,
             offset: Range::single(STACK_SIZE),

@@ -34,14 +34,15 @@ pub struct Program {
     pub form: PolicyForm,
 }
 
-fn blank_counts(alloc: Global, count: usize) -> Result<Vec<Option<u32>>, AllocError>
+/// As many counts as asked for, none of them known.
+fn no_counts(alloc: Global, count: usize) -> Result<Vec<Option<u32>>, AllocError>
     ensures blank { IfOk result (λ list. (k : ℕ) → slice_index_or list.items k None ≡ None) }
     ensures room { IfOk result (λ list. length list.items ≡ count) }
 {
     vec![in alloc; None; count]
 }
 
-/// Checks the control graph.
+/// Checks the control graph. The error names the fault that the checks find first, or says that memory ran out.
 pub(crate) fn check_graph(alloc: Global, slots: &[Option<Insn>]) -> Result<(), Refused>
     requires some { 0 < length slots.now }
     requires short { length slots.now ≤ SLOTS }
@@ -51,7 +52,7 @@ pub(crate) fn check_graph(alloc: Global, slots: &[Option<Insn>]) -> Result<(), R
     ensures made { OnOk result ((made : ℕ → ℕ) × BoundsCalls slots.now made) }
     ensures passes { IsFaultless slots.now → IfErr result IsOutOfMemory }
 {
-    let mut most = blank_counts(alloc, slots.len())?;
+    let mut most = no_counts(alloc, slots.len())?;
     match check(slots, most.as_mut_slice()) {
         Ok(()) => Ok(()),
         Err(fault) => Err(Refused::At {
@@ -107,7 +108,7 @@ pub fn verify(alloc: Global, program: Program) -> Result<Verified, Refused>
     ensures budget { IfOk result (λ v. IsGreatest (PathOut v.slots 0) v.budget) }
     ensures accepted { IfOk result (λ v. IsAccepted v.slots v.shapes (context_length_of v.hook v.version) v.budget) }
     ensures refused { IfErr result (IsVerdictOn (subject_of_program program)) }
-    ensures accepts { IsStraightProgram (subject_of_program program) → IfErr result IsOutOfMemory }
+    ensures total_on_straight { IsStraightProgram (subject_of_program program) → IfErr result IsOutOfMemory }
 {
     verify_slots(alloc, program)
 }
@@ -125,7 +126,7 @@ fn verify_slots(alloc: Global, program: Program) -> Result<Verified, Refused>
     ensures budget { IfOk result (λ v. IsGreatest (PathOut v.slots 0) v.budget) }
     ensures accepted { IfOk result (λ v. IsAccepted v.slots v.shapes (context_length_of v.hook v.version) v.budget) }
     ensures refused { IfErr result (IsVerdictOn (subject_of_program program)) }
-    ensures accepts { IsStraightProgram (subject_of_program program) → IfErr result IsOutOfMemory }
+    ensures total_on_straight { IsStraightProgram (subject_of_program program) → IfErr result IsOutOfMemory }
 {
     let Program { insns, form } = program;
     let slots = lay_out(alloc, insns.as_slice())?;

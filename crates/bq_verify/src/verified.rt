@@ -116,7 +116,7 @@ impl Verified {
         ensures budget { IfOk result (λ v. v.budget ≡ slice_index heights.now 0) }
         ensures accepted { IfOk result (λ v. IsAccepted v.slots v.shapes (context_length_of v.hook v.version) v.budget) }
         ensures stopped { IfErr result (IsStopped (subject_of_slots slots.items form)) }
-        ensures accepts { IsStraightProgram (subject_of_slots slots.items form) → IfErr result IsOutOfMemory }
+        ensures total_on_straight { IsStraightProgram (subject_of_slots slots.items form) → IfErr result IsOutOfMemory }
     {
         let subject = SubjectView {
             slots: slots.as_slice(),

@@ -9,7 +9,7 @@ use std::fmt;
 
 /// A part of a document.
 #[derive(Clone, Copy)]
-pub(crate) enum Location<'a> {
+pub(crate) enum DocumentLocation<'a> {
     /// The document itself.
     Document,
     /// The table of the machine.
@@ -27,13 +27,13 @@ pub(crate) enum Location<'a> {
     },
 }
 
-impl fmt::Display for Location<'_> {
+impl fmt::Display for DocumentLocation<'_> {
     fn fmt<W: fmt::Write>(&self, f: &mut fmt::Formatter<W>) -> fmt::Result {
         match self {
-            Location::Document => Ok(()),
-            Location::Machine => f.write_str("machine: "),
-            Location::Task { number, name } => task(f, *number, *name),
-            Location::Action {
+            DocumentLocation::Document => Ok(()),
+            DocumentLocation::Machine => f.write_str("machine: "),
+            DocumentLocation::Task { number, name } => task(f, *number, *name),
+            DocumentLocation::Action {
                 number,
                 name,
                 action,
@@ -61,7 +61,10 @@ fn task<W: fmt::Write>(
 #[derive(Clone, Copy)]
 pub(crate) enum Trouble<'a> {
     /// Something is wrong in it.
-    At { place: Location<'a>, why: Why<'a> },
+    At {
+        place: DocumentLocation<'a>,
+        why: Why<'a>,
+    },
     OutOfMemory,
 }
 
@@ -77,11 +80,11 @@ impl<T: Drop> From<AllocFailed<T>> for Trouble<'_> {
     }
 }
 
-impl<'a> Location<'a> {
+impl<'a> DocumentLocation<'a> {
     /// An action of this task, by its number from 1.
-    pub(crate) fn action(self, action: usize) -> Location<'a> {
+    pub(crate) fn action(self, action: usize) -> DocumentLocation<'a> {
         match self {
-            Location::Task { number, name } => Location::Action {
+            DocumentLocation::Task { number, name } => DocumentLocation::Action {
                 number,
                 name,
                 action,

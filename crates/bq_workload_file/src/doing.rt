@@ -6,7 +6,7 @@ ghost use Rattle.bq_workload_file.specs.Actions.{actions_with};
 ghost use Rattle.bq_workload_file.specs.Workloads.{table_actions, short_of};
 
 use crate::actions::{actions, phase};
-use crate::blame::{Location, Trouble};
+use crate::blame::{DocumentLocation, Trouble};
 use crate::tables::at;
 use crate::why::{Wanted, Why};
 use bq_workload::Action;
@@ -17,7 +17,7 @@ use toml::{Table, Value};
 pub(crate) fn all_actions<'a>(
     alloc: Global,
     table: &'a Table,
-    place: Location<'a>,
+    place: DocumentLocation<'a>,
     names: &'a [String],
 ) -> Result<Vec<Action>, Trouble<'a>>
     ensures { IfOk result (λ v. table_actions names.now (table_view table.now) ≡ Some v.items) }
@@ -41,7 +41,7 @@ pub(crate) fn all_actions<'a>(
 /// A run, and a sleep if there is one.
 fn short<'a>(
     alloc: Global,
-    place: Location<'a>,
+    place: DocumentLocation<'a>,
     run: Option<&'a Value>,
     sleep: Option<&'a Value>,
 ) -> Result<Vec<Action>, Trouble<'a>>
@@ -64,7 +64,7 @@ fn short<'a>(
 /// The actions of a `do`.
 fn long<'a>(
     alloc: Global,
-    place: Location<'a>,
+    place: DocumentLocation<'a>,
     value: &'a Value,
     names: &'a [String],
 ) -> Result<Vec<Action>, Trouble<'a>>

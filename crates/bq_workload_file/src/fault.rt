@@ -6,7 +6,7 @@ ghost use Rattle.toml.specs.Parse.{parse_document};
 ghost use Rattle.bq_workload_file.specs.Positions.{column_after, line_after};
 ghost use Rattle.bq_workload_file.specs.Workloads.{IsWorkloadFault};
 
-use crate::blame::Location;
+use crate::blame::DocumentLocation;
 use crate::near::{meant_word, nearest_name};
 use crate::why::Why;
 use std::alloc::{AllocError, Global};
@@ -94,7 +94,7 @@ fn is_char_start(byte: u8) -> bool
 /// What is wrong, with its place and the word that was perhaps meant.
 pub(crate) fn meaning(
     alloc: Global,
-    place: &Location<'_>,
+    place: &DocumentLocation<'_>,
     why: &Why<'_>,
 ) -> Result<WorkloadFault, AllocError>
     ensures { IfOk result (λ fault. (text : List ℕ) → IsSome (parse_document text) → IsWorkloadFault text fault) }

@@ -7,7 +7,7 @@ ghost use Rattle.bq_words.specs.ProcessorSets.{processors_of};
 ghost use Rattle.bq_workload_file.specs.Fields.{read_within, span_in, number_in, or_default, read_nice, discipline_in, size_in, name_in_members, read_mask, loops_of};
 
 use crate::tables::at;
-use crate::why::{Range, Wanted, Why};
+use crate::why::{NumberRange, Wanted, Why};
 use bq_weights::is_nice;
 use bq_words::processor_sets::processors;
 use bq_words::{DisciplineName, ProcessorCount, duration};
@@ -15,7 +15,7 @@ use bq_workload::limits::LONGEST_NAME;
 use toml::{Table, Value};
 
 /// The number, if it is in the range.
-fn within(number: u64, range: Range) -> Option<u64>
+fn within(number: u64, range: NumberRange) -> Option<u64>
     ensures value { result ≡ read_within range.least range.greatest number }
     ensures most { IfSome result (λ n. n ≤ range.greatest) }
 {
@@ -27,7 +27,7 @@ fn within(number: u64, range: Range) -> Option<u64>
 }
 
 /// A duration, with its unit, in a range of nanoseconds.
-pub(crate) fn span(value: &Value, range: Range) -> Option<u64>
+pub(crate) fn span(value: &Value, range: NumberRange) -> Option<u64>
     ensures { result ≡ span_in range.least range.greatest (view value.now) }
 {
     let word = value.as_str()?;
@@ -36,7 +36,7 @@ pub(crate) fn span(value: &Value, range: Range) -> Option<u64>
 }
 
 /// A whole number in a range.
-fn number(value: &Value, range: Range) -> Option<u64>
+fn number(value: &Value, range: NumberRange) -> Option<u64>
     ensures value { result ≡ number_in range.least range.greatest (view value.now) }
     ensures most { IfSome result (λ n. n ≤ range.greatest) }
 {
@@ -52,7 +52,7 @@ pub(crate) fn span_at<'a>(
     table: &'a Table,
     key: &'static str,
     default: u64,
-    range: Range,
+    range: NumberRange,
 ) -> Result<u64, Why<'a>>
     ensures { result_ok result ≡ or_default default (span_in range.least range.greatest) (get_member key.now (table_view table.now)) }
 {
@@ -74,7 +74,7 @@ pub(crate) fn number_at<'a>(
     table: &'a Table,
     key: &'static str,
     default: u64,
-    range: Range,
+    range: NumberRange,
 ) -> Result<u64, Why<'a>>
     requires { default ≤ range.greatest }
     ensures value { result_ok result ≡ or_default default (number_in range.least range.greatest) (get_member key.now (table_view table.now)) }
@@ -97,7 +97,7 @@ pub(crate) fn number_at<'a>(
 pub(crate) fn loops(table: &Table) -> Result<Option<u64>, Why<'_>>
     ensures { result_ok result ≡ loops_of (get_member (codes "loops") (table_view table.now)) }
 {
-    let range = Range {
+    let range = NumberRange {
         least: 1,
         greatest: i64::MAX as u64,
     };
@@ -221,7 +221,7 @@ fn size_given(value: &Value) -> Option<ProcessorCount>
 {
     let number = number(
         value,
-        Range {
+        NumberRange {
             least: 1,
             greatest: 64,
         },

@@ -6,11 +6,11 @@ ghost use Rattle.bq_workload_file.specs.Fields.{name_in_members};
 ghost use Rattle.bq_workload_file.specs.Keys.{IsRefusedFor, first_unknown, task_keys, unknown_key};
 ghost use Rattle.bq_workload_file.specs.Workloads.{HasNumbers, IsKind, all_of};
 
-use crate::blame::{Location, Trouble};
+use crate::blame::{DocumentLocation, Trouble};
 use crate::doing::all_actions;
 use crate::fields::{loops, mask, name, nice, number_at, span_at};
 use crate::tables::all_known;
-use crate::why::{Range, Why};
+use crate::why::{NumberRange, Why};
 use bq_disc::limits::{DEFAULT_SLICE, GREATEST_SLICE, LEAST_SLICE, TASKS};
 use bq_words::ProcessorCount;
 use bq_words::processor_sets::bits;
@@ -62,15 +62,15 @@ fn all_numbers<'a>(table: &'a Table, processors: Processors) -> Result<Numbers, 
     ensures unknown { (key : List ℕ) → first_unknown task_keys (table_view table.now) ≡ Some key → option_and_then unknown_key (result_err result) ≡ Some key }
 {
     all_known(table, &TASK)?;
-    let counts = Range {
+    let counts = NumberRange {
         least: 1,
         greatest: u64::from(TASKS),
     };
-    let slices = Range {
+    let slices = NumberRange {
         least: LEAST_SLICE,
         greatest: GREATEST_SLICE,
     };
-    let starts = Range {
+    let starts = NumberRange {
         least: 0,
         greatest: LONGEST,
     };
@@ -102,7 +102,7 @@ pub(crate) fn kind<'a>(
     ensures unknown { (key : List ℕ) → IsSome (name_in_members (table_view table.now)) → first_unknown task_keys (table_view table.now) ≡ Some key → IsRefusedFor key result }
 {
     let called = name(table);
-    let place = Location::Task {
+    let place = DocumentLocation::Task {
         number,
         name: called.ok(),
     };

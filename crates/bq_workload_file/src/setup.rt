@@ -8,7 +8,7 @@ ghost use Rattle.bq_workload_file.specs.Workloads.{IsSetup};
 
 use crate::fields::{discipline, number_at, size, span_at};
 use crate::tables::all_known;
-use crate::why::{Range, Why};
+use crate::why::{NumberRange, Why};
 use bq_words::{DisciplineName, ProcessorCount};
 use bq_workload::Setup;
 use bq_workload::limits::LONGEST;
@@ -49,15 +49,15 @@ pub(crate) fn setup(table: &Table) -> Result<Setup, Why<'_>>
     ensures unknown { (key : List ℕ) → first_unknown machine_keys (table_view table.now) ≡ Some key → option_and_then unknown_key (result_err result) ≡ Some key }
 {
     all_known(table, &MACHINE)?;
-    let time = Range {
+    let time = NumberRange {
         least: 1,
         greatest: LONGEST,
     };
-    let cost = Range {
+    let cost = NumberRange {
         least: 0,
         greatest: LONGEST,
     };
-    let seeds = Range {
+    let seeds = NumberRange {
         least: 0,
         greatest: i64::MAX as u64,
     };

@@ -13,13 +13,13 @@ use toml::{Table, Value};
 
 /// A stretch of numbers, both ends included.
 #[derive(Clone, Copy)]
-pub(crate) struct Range {
+pub(crate) struct NumberRange {
     pub(crate) least: u64,
     pub(crate) greatest: u64,
 }
 
 /// How long a phase may be.
-pub(crate) const PHASE: Range = Range {
+pub(crate) const PHASE: NumberRange = NumberRange {
     least: 1,
     greatest: LONGEST,
 };
@@ -28,9 +28,9 @@ pub(crate) const PHASE: Range = Range {
 #[derive(Clone, Copy)]
 pub(crate) enum Wanted {
     /// A duration in this range of nanoseconds.
-    Time(Range),
+    Time(NumberRange),
     /// A whole number in this range.
-    Number(Range),
+    Number(NumberRange),
     /// A length of a phase: a duration, or how it is drawn.
     Length,
     Nice,
@@ -216,7 +216,11 @@ fn pair(value: &Value) -> Option<(&Value, &Value)> {
 }
 
 /// Says that a value is not a duration, or none of a range.
-fn no_time<W: fmt::Write>(f: &mut fmt::Formatter<W>, value: &Value, range: &Range) -> fmt::Result {
+fn no_time<W: fmt::Write>(
+    f: &mut fmt::Formatter<W>,
+    value: &Value,
+    range: &NumberRange,
+) -> fmt::Result {
     let given = match value.as_str() {
         Some(word) => duration(word.as_bytes()),
         None => None,

@@ -9,7 +9,7 @@ ghost use Rattle.bq_workload_file.specs.Keys.{IsRefusedFor, document_keys, first
 ghost use Rattle.bq_workload_file.specs.Workloads.{AreKinds, AreTableNames, AreOthers, DescribesWorkload, IsMachine, IsWorkloadFault, task_tables};
 
 use crate::actions;
-use crate::blame::{Location, Trouble};
+use crate::blame::{DocumentLocation, Trouble};
 use crate::changes::Changes;
 use crate::fault::{WorkloadFault, meaning, syntax};
 use crate::fields::name;
@@ -77,9 +77,9 @@ fn outline(document: &Table) -> Result<(Setup, &[Value]), Trouble<'_>>
     ensures tasks { IfOk result (λ p. task_tables (table_view document.now) ≡ Some (items_view p.1.now)) }
     ensures some { IfOk result (λ p. 0 < length p.1.now) }
 {
-    Location::Document.locate(all_known(document, &DOCUMENT))?;
+    DocumentLocation::Document.locate(all_known(document, &DOCUMENT))?;
     let machine = machine(document)?;
-    let tables = Location::Document.locate(tables(document))?;
+    let tables = DocumentLocation::Document.locate(tables(document))?;
     Ok((machine, tables))
 }
 
@@ -90,8 +90,8 @@ fn machine(document: &Table) -> Result<Setup, Trouble<'_>>
     match at(document, "machine") {
         None => Ok(absent()),
         Some(value) => {
-            let table = Location::Document.locate(table_at("machine", value))?;
-            Location::Machine.locate(setup(table))
+            let table = DocumentLocation::Document.locate(table_at("machine", value))?;
+            DocumentLocation::Machine.locate(setup(table))
         }
     }
 }
@@ -139,11 +139,11 @@ fn names<'a>(alloc: Global, tables: &'a [Value]) -> Result<Vec<String>, Trouble<
     for (index, value) in tables.iter().enumerate() {
         if index >= usize::from(TASKS) {
             return Err(Trouble::At {
-                place: Location::Document,
+                place: DocumentLocation::Document,
                 why: Why::TooMany,
             });
         }
-        let place = Location::Task {
+        let place = DocumentLocation::Task {
             number: index + 1,
             name: None,
         };
@@ -176,12 +176,12 @@ fn kinds<'a>(
     let mut kinds = Vec::new(alloc);
     let mut tasks: u16 = 0;
     for (index, value) in tables.iter().enumerate() {
-        let table = Location::Document.locate(table_at("task", value))?;
+        let table = DocumentLocation::Document.locate(table_at("task", value))?;
         let kind = kind(alloc, table, index + 1, names, processors)?;
         tasks = match tasks.checked_add(kind.count) {
             Some(tasks) if tasks <= TASKS => tasks,
             _ => return Err(Trouble::At {
-                place: Location::Document,
+                place: DocumentLocation::Document,
                 why: Why::TooMany,
             }),
         };

@@ -52,7 +52,7 @@ returns-in_err-verified-clause-unloaded c =
     c.in_ok-shapes.shapes.items c.in_err-verified.field-0.0 c.in_ok-header.ensures.ok c.in_ok-insns.ensures.spelled
     c.in_ok-insns.ensures.well_formed c.in_ok-insns.ensures.numbers c.in_ok-shapes.ensures.ok
     c.in_err-verified.ensures.refused (λ straight.
-    c.in_err-verified.ensures.accepts
+    c.in_err-verified.ensures.total_on_straight
     (straight_program c.args.bytes.now s c.in_ok-header.program.now c.in_ok-insns.insns.items c.in_ok-shapes.shapes.items
     c.in_ok-header.ensures.ok straight c.in_ok-insns.ensures.spelled c.in_ok-insns.ensures.well_formed
     c.in_ok-insns.ensures.numbers c.in_ok-shapes.ensures.ok)))
@@ -65,7 +65,7 @@ returns-in_err-verified-clause-accepts c = λ straight.
     straight_program c.args.bytes.now s c.in_ok-header.program.now c.in_ok-insns.insns.items c.in_ok-shapes.shapes.items
     c.in_ok-header.ensures.ok straight c.in_ok-insns.ensures.spelled c.in_ok-insns.ensures.well_formed
     c.in_ok-insns.ensures.numbers c.in_ok-shapes.ensures.ok in
-    rw (p.1, p.2, c.in_err-verified.ensures.accepts program) refl
+    rw (p.1, p.2, c.in_err-verified.ensures.total_on_straight program) refl
 
 pub returns-clause-loaded : goal.returns-clause-loaded
 returns-clause-loaded c =

@@ -31,7 +31,7 @@ returns-in_ok-text-in-Err-At g c =
           refused_policy c.args.policy.now (subject_of_program c.in_ok-program.program)
           c.in-Err-At.field-0 c.in-Err-At.slot c.in-Err-At.cause c.in_ok-program.ensures.judged
           c.in-Err-At.field-0-is (IfErr-at_err _ c.in-Err-At.is c.verify.ensures.refused)
-          (λ straight. IfErr-at_err IsOutOfMemory c.in-Err-At.is (c.verify.ensures.accepts straight));
+          (λ straight. IfErr-at_err IsOutOfMemory c.in-Err-At.is (c.verify.ensures.total_on_straight straight));
       text = c.in_ok-text-in-Err-At.text;
       is = refl;
       reported = c.in_ok-text-in-Err-At.ensures;

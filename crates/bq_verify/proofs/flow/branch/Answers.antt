@@ -14,14 +14,14 @@ pub returns-clause-parts : goal.returns-clause-parts
 returns-clause-parts c = λ f s shapes contains.
     let operand = c.in-Some.ensures.finds f s contains in
     parts_of f s c.args.state.now c.args.test.width c.args.test.cond c.args.test.dst c.args.test.src c.args.to c.args.next
-    (IsKnown c.wait_on_side.new.pending c.carry_on.new.state c.carry_on.result c.args.next) c.in-Some-known.left
+    (IsKnown c.wait_on_side.new.pending c.keep_on_side.new.state c.keep_on_side.result c.args.next) c.in-Some-known.left
     c.in-Some.right c.in_ok-yes.yes c.in_ok-no.no c.right_side.result c.right_side-2.result c.in-Some-known.ensures operand.0
     operand.1 operand.2 c.in_ok-yes.ensures.fits c.in_ok-no.ensures.fits c.right_side.ensures c.right_side-2.ensures
     (λ t at side. inl (c.in_ok-wait_on_side.ensures.added f t shapes at (rw c.relation.ensures side)))
-    (λ t at side. let on = c.carry_on.ensures.contains f t (rw c.relation-2.ensures side) in inr (on.0, at, on.1)) contains
+    (λ t at side. let on = c.keep_on_side.ensures.contains f t (rw c.relation-2.ensures side) in inr (on.0, at, on.1)) contains
 
-pub returns-clause-sure : goal.returns-clause-sure
-returns-clause-sure c = λ scalar operand x k waits yes_side no_side.
+pub returns-clause-number_test_known : goal.returns-clause-number_test_known
+returns-clause-number_test_known c = λ scalar operand x k waits yes_side no_side.
     let there = known_inside c.args.state.now.registers c.args.test.dst c.in-Some-known.left c.in-Some-known.ensures in
     let left : c.in-Some-known.left.kind ≡ Number =
     subst (λ (v : Option AbstractValue). CertaintyHolds Scalar v) (sym c.in-Some-known.ensures) scalar in
@@ -34,12 +34,12 @@ returns-clause-sure c = λ scalar operand x k waits yes_side no_side.
           (c.in_ok-yes.ensures.number left right) so.2);
       transferred = λ live same.
           let so = no_side same in
-          c.carry_on.ensures.has x (has_on_side x c.args.state.now c.args.test.dst c.in_ok-no.no there so.0 so.1 scalar
+          c.keep_on_side.ensures.has x (has_on_side x c.args.state.now c.args.test.dst c.in_ok-no.no there so.0 so.1 scalar
           (c.in_ok-no.ensures.number left right) so.2) live;
     }
 
-pub returns-clause-checked : goal.returns-clause-checked
-returns-clause-checked c = λ map tested x k waits yes_side no_side.
+pub returns-clause-null_check_known : goal.returns-clause-null_check_known
+returns-clause-null_check_known c = λ map tested x k waits yes_side no_side.
     let there = known_inside c.args.state.now.registers c.args.test.dst c.in-Some-known.left c.in-Some-known.ensures in
     let left : CertaintyHolds (Pointer (EntryOrNull map) 0) (Some c.in-Some-known.left) =
     subst (λ (v : Option AbstractValue). CertaintyHolds (Pointer (EntryOrNull map) 0) v)
@@ -50,28 +50,28 @@ returns-clause-checked c = λ map tested x k waits yes_side no_side.
           has_on_tested x c.args.state.now c.args.test.dst map (is_found c.args.test.cond true) c.in_ok-yes.yes there
           (c.in_ok-yes.ensures.tested map tested.0 left) (yes_side same));
       transferred = λ live same.
-          c.carry_on.ensures.has x (has_on_tested x c.args.state.now c.args.test.dst map (is_found c.args.test.cond false)
+          c.keep_on_side.ensures.has x (has_on_tested x c.args.state.now c.args.test.dst map (is_found c.args.test.cond false)
           c.in_ok-no.no there (c.in_ok-no.ensures.tested map tested.0 left) (no_side same)) live;
     }
 
-pub returns-in_default-clause-accepts : goal.returns-in_default-clause-accepts
-returns-in_default-clause-accepts c = λ below scalar operand. absurd (c.in_default.ensures.scalar operand)
+pub returns-in_default-clause-number_test_accepted : goal.returns-in_default-clause-number_test_accepted
+returns-in_default-clause-number_test_accepted c = λ below scalar operand. absurd (c.in_default.ensures.scalar operand)
 
-pub returns-in_default-known-clause-accepts : goal.returns-in_default-known-clause-accepts
-returns-in_default-known-clause-accepts c = λ below scalar operand.
+pub returns-in_default-known-clause-number_test_accepted : goal.returns-in_default-known-clause-number_test_accepted
+returns-in_default-known-clause-number_test_accepted c = λ below scalar operand.
     absurd (subst (λ (v : Option AbstractValue). CertaintyHolds Scalar v) (sym c.in_default-known.ensures) scalar)
 
-pub returns-then-test-ge10-clause-accepts : goal.returns-then-test-ge10-clause-accepts
-returns-then-test-ge10-clause-accepts c = λ below scalar operand. absurd (omega arith)
+pub returns-then-test-ge-FRAME_REGISTER-clause-number_test_accepted : goal.returns-then-test-ge-FRAME_REGISTER-clause-number_test_accepted
+returns-then-test-ge-FRAME_REGISTER-clause-number_test_accepted c = λ below scalar operand. absurd (omega arith)
 
-pub returns-in_err-yes-clause-accepts : goal.returns-in_err-yes-clause-accepts
-returns-in_err-yes-clause-accepts c = λ below scalar operand.
+pub returns-in_err-yes-clause-number_test_accepted : goal.returns-in_err-yes-clause-number_test_accepted
+returns-in_err-yes-clause-number_test_accepted c = λ below scalar operand.
     let left : c.in-Some-known.left.kind ≡ Number =
     subst (λ (v : Option AbstractValue). CertaintyHolds Scalar v) (sym c.in-Some-known.ensures) scalar in
     absurd (false≢true (c.in_err-yes.ensures.accepts left (c.in-Some.ensures.scalar operand)))
 
-pub returns-in_err-yes-clause-checks : goal.returns-in_err-yes-clause-checks
-returns-in_err-yes-clause-checks c = λ map below tested.
+pub returns-in_err-yes-clause-null_check_accepted : goal.returns-in_err-yes-clause-null_check_accepted
+returns-in_err-yes-clause-null_check_accepted c = λ map below tested.
     let left : CertaintyHolds (Pointer (EntryOrNull map) 0) (Some c.in-Some-known.left) =
     subst (λ (v : Option AbstractValue). CertaintyHolds (Pointer (EntryOrNull map) 0) v)
     (sym c.in-Some-known.ensures) tested.1 in
@@ -82,14 +82,14 @@ returns-in_err-yes-clause-obligations c =
     let error = err_from_is_err_and c.from_residual.result c.from_residual.ensures.1 in
     rw (error.1, error.2) (λ insn reads uses. c.in_err-yes.ensures.obligations insn uses)
 
-pub returns-in_err-no-clause-accepts : goal.returns-in_err-no-clause-accepts
-returns-in_err-no-clause-accepts c = λ below scalar operand.
+pub returns-in_err-no-clause-number_test_accepted : goal.returns-in_err-no-clause-number_test_accepted
+returns-in_err-no-clause-number_test_accepted c = λ below scalar operand.
     let left : c.in-Some-known.left.kind ≡ Number =
     subst (λ (v : Option AbstractValue). CertaintyHolds Scalar v) (sym c.in-Some-known.ensures) scalar in
     absurd (false≢true (c.in_err-no.ensures.accepts left (c.in-Some.ensures.scalar operand)))
 
-pub returns-in_err-no-clause-checks : goal.returns-in_err-no-clause-checks
-returns-in_err-no-clause-checks c = λ map below tested.
+pub returns-in_err-no-clause-null_check_accepted : goal.returns-in_err-no-clause-null_check_accepted
+returns-in_err-no-clause-null_check_accepted c = λ map below tested.
     let left : CertaintyHolds (Pointer (EntryOrNull map) 0) (Some c.in-Some-known.left) =
     subst (λ (v : Option AbstractValue). CertaintyHolds (Pointer (EntryOrNull map) 0) v)
     (sym c.in-Some-known.ensures) tested.1 in
@@ -105,6 +105,6 @@ returns-in_err-wait_on_side-clause-obligations c =
     let error = err_from_is_err_and c.from_residual-in_err-wait_on_side.result c.from_residual-in_err-wait_on_side.ensures.1 in
     rw (error.1, error.2) (λ insn reads uses. tt)
 
-pub returns-in_default-known-clause-checks : goal.returns-in_default-known-clause-checks
-returns-in_default-known-clause-checks c = λ map below tested.
+pub returns-in_default-known-clause-null_check_accepted : goal.returns-in_default-known-clause-null_check_accepted
+returns-in_default-known-clause-null_check_accepted c = λ map below tested.
     absurd (subst (λ (v : Option AbstractValue). CertaintyHolds (Pointer (EntryOrNull map) 0) v) (sym c.in_default-known.ensures) tested.1)

@@ -45,10 +45,10 @@ returns-then-is_counter_call-clause-sure c = λ ready x k waits after.
 
 pub returns-clause-accepts : goal.returns-clause-accepts
 returns-clause-accepts c = λ ready.
-    c.go_on.ensures.accepts (not_asked c.args.subject.now.shapes.now c.args.subject.now.context c.args.state.now c.args.insn
+    c.visit_uncounted.ensures.accepts (not_asked c.args.subject.now.shapes.now c.args.subject.now.context c.args.state.now c.args.insn
     (λ call. false≢true (sym c.if-is_counter_call.false ∙ c.is_counter_call.ensures.only call)) ready)
 
 pub returns-clause-sure : goal.returns-clause-sure
 returns-clause-sure c = λ ready.
-    c.go_on.ensures.sure (not_asked c.args.subject.now.shapes.now c.args.subject.now.context c.args.state.now c.args.insn
+    c.visit_uncounted.ensures.sure (not_asked c.args.subject.now.shapes.now c.args.subject.now.context c.args.state.now c.args.insn
     (λ call. false≢true (sym c.if-is_counter_call.false ∙ c.is_counter_call.ensures.only call)) ready)

@@ -56,8 +56,8 @@ returns-in_err-slots-clause-refused c =
     let error = err_from_is_err_and c.from_residual.result c.from_residual.ensures.1 in
     rw (error.1, error.2) tt
 
-pub returns-in_err-slots-clause-accepts : goal.returns-in_err-slots-clause-accepts
-returns-in_err-slots-clause-accepts c = λ straight.
+pub returns-in_err-slots-clause-total_on_straight : goal.returns-in_err-slots-clause-total_on_straight
+returns-in_err-slots-clause-total_on_straight c = λ straight.
     let error = err_from_is_err_and c.from_residual.result c.from_residual.ensures.1 in
     rw (error.1, error.2) refl
 
@@ -93,7 +93,7 @@ returns-in_err-heights-clause-refused c =
     let error = err_from_is_err_and c.from_residual-in_err-heights.result c.from_residual-in_err-heights.ensures.1 in
     rw (error.1, error.2) tt
 
-pub returns-in_err-heights-clause-accepts : goal.returns-in_err-heights-clause-accepts
-returns-in_err-heights-clause-accepts c = λ straight.
+pub returns-in_err-heights-clause-total_on_straight : goal.returns-in_err-heights-clause-total_on_straight
+returns-in_err-heights-clause-total_on_straight c = λ straight.
     let error = err_from_is_err_and c.from_residual-in_err-heights.result c.from_residual-in_err-heights.ensures.1 in
     rw (error.1, error.2) refl

@@ -10,8 +10,8 @@ returns-in_err-judge-clause-stopped c =
     rw (error.1, error.2)
     (rw (c.as_slice.ensures.value, c.as_slice-2.ensures.value, c.context_length.ensures) at c.in_err-judge.ensures.stopped)
 
-pub returns-in_err-judge-clause-accepts : goal.returns-in_err-judge-clause-accepts
-returns-in_err-judge-clause-accepts c = λ straight.
+pub returns-in_err-judge-clause-total_on_straight : goal.returns-in_err-judge-clause-total_on_straight
+returns-in_err-judge-clause-total_on_straight c = λ straight.
     let error = err_from_is_err_and c.from_residual.result c.from_residual.ensures.1 in
     rw (error.1, error.2)
     (c.in_err-judge.ensures.accepts (rw (c.as_slice.ensures.value, c.as_slice-2.ensures.value, c.context_length.ensures) straight))
@@ -21,8 +21,8 @@ returns-in_err-code-clause-stopped c =
     let error = err_from_is_err_and c.from_residual-in_err-code.result c.from_residual-in_err-code.ensures.1 in
     rw (error.1, error.2) tt
 
-pub returns-in_err-code-clause-accepts : goal.returns-in_err-code-clause-accepts
-returns-in_err-code-clause-accepts c = λ straight.
+pub returns-in_err-code-clause-total_on_straight : goal.returns-in_err-code-clause-total_on_straight
+returns-in_err-code-clause-total_on_straight c = λ straight.
     let error = err_from_is_err_and c.from_residual-in_err-code.result c.from_residual-in_err-code.ensures.1 in
     rw (error.1, error.2) refl
 
@@ -32,8 +32,8 @@ returns-clause-accepted c =
     let safe = rw (c.as_slice.ensures.value, c.as_slice-2.ensures.value, c.context_length.ensures) at c.in_ok-judge.ensures.safe in
     accepted_program (subject_of_slots c.args.slots.items c.args.form) _ c.requires.passable passed safe
 
-pub returns-clause-accepts : goal.returns-clause-accepts
-returns-clause-accepts c = λ straight. tt
+pub returns-clause-total_on_straight : goal.returns-clause-total_on_straight
+returns-clause-total_on_straight c = λ straight. tt
 
 pub judge-requires-clause-passable : goal.judge-requires-clause-passable
 judge-requires-clause-passable c = rw (c.as_slice.ensures.value, c.as_slice-2.ensures.value, c.context_length.ensures) c.requires.passable

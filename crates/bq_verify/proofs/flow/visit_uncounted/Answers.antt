@@ -23,7 +23,7 @@ use Rattle.bq_bpf.specs.Instructions.{Leaves}
 use Rattle.bq_verify.proofs.EdgeLemmas.{start_inside}
 use Rattle.bq_verify.specs.Control.{IsKnown}
 use Rattle.bq_verify.proofs.PassLemmas.{goes_apart, goes_on, goes_there, goes_far}
-use Rattle.bq_verify.proofs.flow.go_on.Goals as goal
+use Rattle.bq_verify.proofs.flow.visit_uncounted.Goals as goal
 
 pub returns-in_ok-wait-in-Goto-clause-goes : goal.returns-in_ok-wait-in-Goto-clause-goes
 returns-in_ok-wait-in-Goto-clause-goes c =
@@ -196,7 +196,7 @@ returns-in-Branch-clause-sure c = λ ready.
           sure x k waits
           (λ same. left (subst (λ (n : ℕ). IsEdge c.args.subject.now.slots.now c.args.slot n) (sym same) there))
           (λ same. left (subst (λ (n : ℕ). IsEdge c.args.subject.now.slots.now c.args.slot n) (sym same) next)))
-          (c.branch-alloc.ensures.sure numbers.0 numbers.1)
+          (c.branch-alloc.ensures.number_test_known numbers.0 numbers.1)
       | inr check ↦
           IfOk-weaker c.branch-alloc.result _ _
           (λ live sure x k waits after.
@@ -214,7 +214,7 @@ returns-in-Branch-clause-sure c = λ ready.
           (differ_if_jumps c.in-Branch.cond c.in-Branch.off c.args.slot k at)) (λ same.
           tested (is_found c.in-Branch.cond false)
           (subst (λ (n : ℕ). IsEdge c.args.subject.now.slots.now c.args.slot n) (sym same) next)
-          (differ_if_goes_on c.in-Branch.cond c.in-Branch.off c.args.slot k same))) c.branch-alloc.ensures.checked
+          (differ_if_goes_on c.in-Branch.cond c.in-Branch.off c.args.slot k same))) c.branch-alloc.ensures.null_check_known
     ]
 
 pub returns-in-Branch-clause-accepts : goal.returns-in-Branch-clause-accepts
@@ -223,8 +223,8 @@ returns-in-Branch-clause-accepts c = λ ready.
     subst (λ (i : Insn). IsReady c.args.subject.now.shapes.now c.args.subject.now.context c.args.state.now i)
     c.in-Branch.is ready in
     elim needs.1 [
-      | inl numbers ↦ c.branch-alloc.ensures.accepts needs.0 numbers.0 numbers.1
-      | inr check ↦ c.branch-alloc.ensures.checks check.1 needs.0 (check.0, check.2)
+      | inl numbers ↦ c.branch-alloc.ensures.number_test_accepted needs.0 numbers.0 numbers.1
+      | inr check ↦ c.branch-alloc.ensures.null_check_accepted check.1 needs.0 (check.0, check.2)
     ]
 
 pub transfer-requires-clause-transferred : goal.transfer-requires-clause-transferred

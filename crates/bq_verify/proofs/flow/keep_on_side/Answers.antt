@@ -1,7 +1,7 @@
 use Rattle.std.proofs.Common.{Option, refl, subst}
 use Rattle.bq_states.specs.declared.abstract_state.AbstractValue.{AbstractValue}
 use Rattle.bq_verify.specs.Control.{IsOnSide}
-use Rattle.bq_verify.proofs.flow.carry_on.Goals as goal
+use Rattle.bq_verify.proofs.flow.keep_on_side.Goals as goal
 
 pub returns-clause-contains : goal.returns-clause-contains
 returns-clause-contains c = λ f s side.

@@ -2,7 +2,7 @@ use Rattle.std.proofs.Common.{◌≡◌, ℕ, Some, sym, ◌∙◌, subst}
 use Rattle.bq_insn.specs.Slots.{spread}
 use Rattle.bq_bpf.specs.Steps.{instruction_at}
 use Rattle.bq_explain.proofs.SlotLemmas.{slots_more, stands_behind}
-use Rattle.bq_explain.proofs.place.index_at.Goals as goal
+use Rattle.bq_explain.proofs.program_point.index_at.Goals as goal
 
 pub returns-then-at-slot : goal.returns-then-at-slot
 returns-then-at-slot c insn is =

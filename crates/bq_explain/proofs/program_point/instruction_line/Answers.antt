@@ -2,7 +2,7 @@ use Rattle.std.proofs.Common.{◌≡◌, ◌∙◌, ◌++◌, append_assoc, refl
 use Rattle.std.specs.Prelude.{codes, string_bytes}
 use Rattle.std.proofs.lemmas.Result.{IfOk-weaker}
 use Rattle.bq_explain.specs.TrailTexts.{EndsWith, place_line}
-use Rattle.bq_explain.proofs.place.instruction_line.Goals as goal
+use Rattle.bq_explain.proofs.program_point.instruction_line.Goals as goal
 
 pub returns-in-Some : goal.returns-in-Some
 returns-in-Some c =

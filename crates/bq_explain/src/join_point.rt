@@ -1,10 +1,10 @@
-//! The places where ways meet on which a register holds different words.
+//! Join points: the places where ways meet on which a register holds different words.
 ghost use Rattle.std.specs.Prelude.{◌<◌, ◌≤◌, length};
 ghost use Rattle.bq_verify.specs.Passes.{IsGraphSound};
 ghost use Rattle.bq_explain.specs.Makers.{CanBeWalked};
 
 use crate::after::known_after;
-use crate::place::{Place, place_at};
+use crate::program_point::{ProgramPoint, place_at};
 use crate::ways::{Ways, is_marked, reaching, spares};
 use bq_bpf::MapShape;
 use bq_insn::{Insn, SLOTS};
@@ -20,9 +20,9 @@ use std::alloc::{AllocError, Global};
 /// The most slots at which the ways that meet are compared.
 const TRIED: usize = 4;
 
-/// Two ways that meet, on which a register holds different words.
+/// A join of two ways on which a register holds different words.
 #[derive(Clone, Copy)]
-pub struct Meeting {
+pub struct JoinPoint {
     pub register: u8,
     /// The slot where they meet.
     pub slot: usize,
@@ -37,12 +37,12 @@ pub struct Meeting {
 /// A way into a slot: the instruction that it comes from, and what a register is known to be after that instruction.
 #[derive(Clone, Copy)]
 pub struct Coming {
-    pub place: Place,
+    pub place: ProgramPoint,
     pub known: AbstractValue,
 }
 
 /// The last slot on the ways to this one at which the register comes with different words; no later instruction writes it.
-pub(crate) fn meeting_of(
+pub(crate) fn join_point_of(
     alloc: Global,
     policy: &PolicySource,
     slots: &[Option<Insn>],
@@ -50,7 +50,7 @@ pub(crate) fn meeting_of(
     ways: &Ways,
     register: u8,
     slot: usize,
-) -> Result<Option<Meeting>, AllocError>
+) -> Result<Option<JoinPoint>, AllocError>
     requires walkable { CanBeWalked slots.now }
     requires inside { slot < length slots.now }
 {
@@ -75,7 +75,7 @@ pub(crate) fn meeting_of(
                 )?;
                 if let Some(both) = differing(policy.form.shapes.as_slice(), comings.as_slice()) {
                     let known = known_at(states, here, register);
-                    return Ok(Some(both.meet(register, here, known)));
+                    return Ok(Some(both.join_at(register, here, known)));
                 }
             }
         }
@@ -180,9 +180,9 @@ struct Both {
 }
 
 impl Both {
-    /// The two ways meet at the slot, after which this is known of the register.
-    fn meet(self, register: u8, slot: usize, known: Option<AbstractValue>) -> Meeting {
-        Meeting {
+    /// The point where the two ways join at the slot, after which this is known of the register.
+    fn join_at(self, register: u8, slot: usize, known: Option<AbstractValue>) -> JoinPoint {
+        JoinPoint {
             register,
             slot,
             known,

@@ -1,4 +1,4 @@
-//! The places of the instructions of a policy.
+//! Points of a policy's program: its instructions, and their places.
 ghost use Rattle.std.specs.Prelude.{◌≡◌, IfNone, IfOk, IfSome, Some, slice_get, string_bytes};
 ghost use Rattle.bq_insn.specs.Slots.{spread};
 ghost use Rattle.bq_insn.specs.declared.Insn.{Insn as Reported};
@@ -11,9 +11,9 @@ use bq_insn::Insn;
 use bq_policy_file::{PolicySource, instruction_text};
 use std::alloc::{AllocError, Global};
 
-/// The place of an instruction, and the instruction.
+/// A point of a program: an instruction, and its place.
 #[derive(Clone, Copy)]
-pub struct Place {
+pub struct ProgramPoint {
     /// Its line, if the policy came as a text.
     pub line: Option<usize>,
     pub slot: usize,
@@ -21,7 +21,11 @@ pub struct Place {
 }
 
 /// The place of the instruction that begins at the slot, if one does.
-pub(crate) fn place_at(policy: &PolicySource, slots: &[Option<Insn>], slot: usize) -> Option<Place>
+pub(crate) fn place_at(
+    policy: &PolicySource,
+    slots: &[Option<Insn>],
+    slot: usize,
+) -> Option<ProgramPoint>
     ensures place { IfSome result (IsPlaceOfSlot slots.now slot) }
     ensures none { IfNone result (¬ IsStart slots.now slot) }
 {
@@ -32,7 +36,7 @@ pub(crate) fn place_at(policy: &PolicySource, slots: &[Option<Insn>], slot: usiz
         return None;
     };
     let line = line_at(policy, slot);
-    Some(Place { line, slot, insn })
+    Some(ProgramPoint { line, slot, insn })
 }
 
 /// The line of the text that has the instruction at the slot.
@@ -42,12 +46,12 @@ pub(crate) fn line_at(policy: &PolicySource, slot: usize) -> Option<usize> {
 }
 
 /// The first call of the helper.
-pub(crate) fn call_of(policy: &PolicySource, helper: i32) -> Option<Place> {
+pub(crate) fn call_of(policy: &PolicySource, helper: i32) -> Option<ProgramPoint> {
     let mut slot: usize = 0;
     for insn in policy.insns.as_slice() {
         if calls(*insn, helper) {
             let line = line_at(policy, slot);
-            return Some(Place {
+            return Some(ProgramPoint {
                 line,
                 slot,
                 insn: *insn,
@@ -67,7 +71,7 @@ fn calls(insn: Insn, helper: i32) -> bool {
 }
 
 /// Says the line of the text that has the instruction, if there is a text, and the instruction's slot.
-pub(crate) fn place_text(alloc: Global, place: &Place) -> Result<String, AllocError>
+pub(crate) fn place_text(alloc: Global, place: &ProgramPoint) -> Result<String, AllocError>
     ensures { IfOk result (λ text. string_bytes text ≡ place_text place.now) }
 {
     let slot = place.slot;
@@ -81,7 +85,7 @@ pub(crate) fn place_text(alloc: Global, place: &Place) -> Result<String, AllocEr
 pub(crate) fn instruction_line(
     alloc: Global,
     name: Option<&str>,
-    place: &Place,
+    place: &ProgramPoint,
 ) -> Result<String, AllocError>
     ensures { IfOk result (λ text. EndsWith (place_line place.now) (string_bytes text)) }
 {
