@@ -78,7 +78,7 @@ macro_rules! forms_and_examples {
 const ASM_OPTIONS: &[OptionText] = options! {
     ("file", Alone("FILE"), "The assembler text; without it, or with -, standard input is read"),
     ("hook", Once("HOOK"), with_hooks!("Writes an image for this hook: ")),
-    ("maps", Once("MAPS"), "With --hook, the bytes of a value and the number of entries of each map, as in 8:2,16:4; the default is no maps"),
+    ("maps", Once("MAPS"), "With --hook, the bytes of a value and the number of entries of each map, as in 8:2,16:4 for two maps; the default is no maps"),
     ("format", Once("FORMAT"), with_versions!("With --hook, the version of the image: ", " (the default) or ", ""))
 };
 
@@ -121,7 +121,7 @@ const LIMIT_OPTIONS: &[OptionText] = options! {
 /// What the file of a policy leaves unsaid.
 const POLICY_OPTIONS: &[OptionText] = options! {
     ("hook", Once("HOOK"), with_hooks!("The policy's hook, if the file does not say it: ")),
-    ("maps", Once("MAPS"), "The bytes of a value and the number of entries of each map, if the file does not say them, as in 8:2,16:4; the default is no maps"),
+    ("maps", Once("MAPS"), "The bytes of a value and the number of entries of each map, if the file does not say them, as in 8:2,16:4 for two maps; the default is no maps"),
     ("format", Once("FORMAT"), with_versions!("The version of the image, if the file does not say it: ", " (the default) or ", ""))
 };
 
@@ -163,7 +163,7 @@ const RUN_OPTIONS: &[OptionText] = options! {
 const IMPORT_OPTIONS: &[OptionText] = options! {
     ("file", Alone("FILE"), "The object file, or the bytes or the hex of its text section; without it, or with -, standard input is read"),
     ("hook", Needed("HOOK"), with_hooks!("The policy's hook: ")),
-    ("maps", Once("MAPS"), "The bytes of a value and the number of entries of each map, as in 8:2,16:4; the default is no maps"),
+    ("maps", Once("MAPS"), "The bytes of a value and the number of entries of each map, as in 8:2,16:4 for two maps; the default is no maps"),
     ("format", Once("FORMAT"), with_versions!("The version of the image: ", " (the default) or ", ""))
 };
 
@@ -404,8 +404,10 @@ pub fn program<'a>(alloc: Global) -> Result<Command<'a>, AllocError>
             "  3  Memory ran out",
             "  4  A read or a write failed, a file can't be opened, or a limit is passed";
             "bqsim simulate workloads/desktop.toml",
+            "bqsim simulate --as svg workloads/desktop.toml > desktop.svg",
             "bqsim timeline --as map examples/four_tasks_cfs.trace",
-            "bqsim check --explain policies/keep_home.s";
+            "bqsim check --explain policies/keep_home.s",
+            "bqsim simulate --seeds 10 --preempt policies/heavier_first.s --against none examples/lab/editor.toml";
             "bqsim COMMAND --help  The options, defaults and examples of a command; begin with simulate",
             "docs/GUIDE.md         A tour, task by task",
             "docs/bqsim.1          The man page: man -l docs/bqsim.1"
