@@ -34,7 +34,7 @@ COMPLETED = {  # what bash offers after these lines
 SYNOPSIS = ["COMMAND [OPTIONS] [FILE]", "[COMMAND] --help", "--version"]
 DESCRIPTION = [
     "bqsim works out which task each processor of a machine runs at each moment, under CFS or EEVDF, two disciplines of Linux. The same workload, policies and "
-    "seed give the same answers each time. To begin, run bqsim simulate workloads/desktop.toml in the folder of the repository. You work with three kinds of files:",
+    "seed give the same answers each time. To begin, run ./bqsim simulate workloads/desktop.toml in the folder of the repository. You work with three kinds of files:",
 ]
 WORDS = [
     ("workload", "a TOML text that says what tasks do. simulate works out when they do it, and shows the schedule or writes it as a trace"),
@@ -101,7 +101,7 @@ STATUSES = [
 PAGES = [
     ("docs/GUIDE.md", "a tour, task by task; docs/LAB.md has exercises"),
     ("docs/POLICIES.md, docs/CONTEXTS.md", "what a policy can do, what it reads, and which answers are permitted"),
-    ("docs/ASSEMBLER.md, docs/POLICIES_IN_C.md", "how to write one"),
+    ("docs/ASSEMBLER.md, docs/POLICIES_IN_C.md", "how to write a policy"),
     ("docs/REFUSALS.md", "why policies are refused, and what helps"),
     ("docs/WORKLOADS.md, docs/TRACE.md", "all that a workload and a trace may say"),
     ("docs/TIMELINE.md, docs/SEEDS.md", "how to read a schedule, and how to read a comparison"),
@@ -231,7 +231,7 @@ def page(program, commands):
     lines += [".SH EXIT STATUS", *tagged("B", STATUSES)]
     lines += [".SH THE SCRIPT", "In a clone of the repository the script ./bqsim runs the program. It has some words of its own:", *tagged("B", SCRIPT)]
     lines += [".SH FILES", "In the repository:", *tagged("I", FOLDERS)]
-    lines += [".SH EXAMPLES", "They run in the folder of the repository."]
+    lines += [".SH EXAMPLES", "They run in the folder of the repository, where you write ./bqsim for bqsim."]
     for what, line in EXAMPLES:
         lines += [".PP", f"{roff(what)}:" if what[-1] != "?" else roff(what), *block([line])]
     lines += [".SH SEE ALSO", "sched(7), perf\\-sched(1). In the repository:", *tagged("I", PAGES)]
