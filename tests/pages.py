@@ -31,17 +31,26 @@ COMPLETED = {  # what bash offers after these lines
     "simulate --as map wor": "workloads",
     "timeline --width ": "",
 }
+SYNOPSIS = ["COMMAND [OPTIONS] [FILE]", "[COMMAND] --help", "--version"]
 DESCRIPTION = [
-    "bqsim simulates a multiprocessor scheduler under CFS or EEVDF. Its commands work on traces, workloads and policies.",
-    ("trace", "a text with one event on each line: tasks are admitted, wake and block, and clocks tick. replay answers each line, and timeline shows the schedule"),
-    ("workload", "a text in TOML that says what tasks do. simulate works out when they do it, and shows the schedule or writes it as a trace"),
+    "bqsim works out which task each processor of a machine runs at each moment, under CFS or EEVDF, two disciplines of Linux. The same workload, policies and "
+    "seed give the same answers each time. To begin, run ./bqsim simulate workloads/desktop.toml in the folder of the repository. You work with three kinds of files:",
+]
+WORDS = [
+    ("workload", "a TOML text that says what tasks do. simulate works out when they do it, and shows the schedule or writes it as a trace"),
+    ("trace", "a text with an event on each line: tasks are admitted, wake and block, and clocks tick. replay answers each line, and timeline shows the schedule"),
     (
         "policy",
-        "a small BPF program that chooses in place of the scheduler: where a woken task goes (place), whether the running task gives way (preempt), or which "
-        "task another processor takes (pull). check says whether a policy is safe, and run runs it once. A trace installs policies by its lines, and simulate by its "
-        "options",
+        "a small BPF program that chooses in place of the discipline. Each policy is for one hook: place (where a woken task goes), preempt "
+        "(whether the running task gives way) or pull (which task another processor takes)",
     ),
 ]
+USE = [
+    "To try a policy, write it in assembler, or write it in C and give the object file to import. Let check judge it, ask it one question with run, and then give "
+    "it to simulate by the option that has the name of its hook. To compare it with another policy or with none, add --seeds and --against. A trace installs policies by its lines.",
+    "Write a time with its unit: ns, us, ms or s. An option whose default is not named changes nothing if you leave it out.",
+]
+HELP = "bqsim help COMMAND is the same as bqsim COMMAND --help. Help is written to standard error, and its status is 2. To read it page by page, write bqsim simulate --help 2>&1 | less."
 SCRIPT = [
     ("./bqsim WORDS..", "runs the program that the repository carries, or the one that --build made there"),
     ("./bqsim --build WORDS..", "proves and builds the sources as they are now, keeps the program, and runs it; this and --prove need the Rattle kit"),
@@ -49,14 +58,36 @@ SCRIPT = [
     ("./bqsim --program", "prints the path of the program that runs"),
     ("./bqsim --made-of", "prints its commit, its kit, and the checksums of its sources and of itself"),
 ]
+EXAMPLES = [
+    ("A schedule in the terminal: a row for each processor, a letter for each task", "bqsim timeline --as map examples/four_tasks_eevdf.trace"),
+    ("The same schedule as a picture, to open in a browser", "bqsim timeline --as svg examples/four_tasks_eevdf.trace > four_tasks.svg"),
+    ("Why a task runs at 1 ms: the tasks that could run, and what decided", "bqsim timeline --as why --from 1ms --to 1ms examples/why.trace"),
+    (
+        "A policy that answers what the discipline would: it is accepted, and a run takes at most 2 instructions",
+        r"printf ';@ hook preempt\nldxw r0, [r1+48]\nexit\n' | bqsim check -",
+    ),
+    (
+        "One question to a policy, its answer and each step: may a waiting task of weight 3121 take the place of one of weight 1024?",
+        "bqsim run --trace --set task=1,weight=1024,next=2,next_weight=3121 policies/heavier_first.s",
+    ),
+    ("A workload under this policy, as tables", "bqsim simulate --preempt policies/heavier_first.s examples/lab/editor.toml"),
+    (
+        "Two policies over ten seeds: the means of both, their difference, and its deviation, for each figure",
+        "bqsim simulate --seeds 10 --preempt policies/heavier_first.s --against policies/every_fourth_tick.s examples/lab/editor.toml",
+    ),
+]
 FOLDERS = [
     ("workloads/, examples/", "workloads and traces to begin with"),
     ("policies/", "policies as assembler text; policies/c/ has some in C, with bqsim.h"),
-    ("docs/GUIDE.md", "a tour by tasks; docs/LAB.md has exercises"),
+    ("docs/bqsim.bash", "completes words in bash, which reads it by source docs/bqsim.bash"),
 ]
 STATUSES = [
-    ("0", "all is well"),
-    ("1", "a trace has a bad line, or, for timeline, a refused line; or asm, dis, check, run, import or simulate refuses what it read"),
+    ("0", "all is well; from check: each policy is accepted"),
+    (
+        "1",
+        "what was read is refused: a policy by check, dis, run or simulate, an object by import, a text by asm, a workload by simulate; or a trace has a bad line "
+        "or, for timeline, a refused line. From check with several files: the greatest of their statuses",
+    ),
     ("2", "a command, an option or its value is wrong, or you asked for help; the text is on standard error"),
     ("3", "memory ran out"),
     (
@@ -66,6 +97,15 @@ STATUSES = [
     ),
     ("127", "not from the program: the script ./bqsim can't unpack or build it, or the system can't load it, as under a small ulimit -v"),
     ("139", "not from the program: the system ends it before it starts, as under an even smaller ulimit -v"),
+]
+PAGES = [
+    ("docs/GUIDE.md", "a tour, task by task; docs/LAB.md has exercises"),
+    ("docs/POLICIES.md, docs/CONTEXTS.md", "what a policy can do, what it reads, and which answers are permitted"),
+    ("docs/ASSEMBLER.md, docs/POLICIES_IN_C.md", "how to write a policy"),
+    ("docs/REFUSALS.md", "why policies are refused, and what helps"),
+    ("docs/WORKLOADS.md, docs/TRACE.md", "all that a workload and a trace may say"),
+    ("docs/TIMELINE.md, docs/SEEDS.md", "how to read a schedule, and how to read a comparison"),
+    ("docs/GLOSSARY.md", "what the words mean"),
 ]
 
 
@@ -80,14 +120,17 @@ class Help:
         self.lists = {heading: list(pairs(body)) for heading, body in named.items()}
 
     def examples(self):
+        """The commands of its examples."""
         return [words for words, _ in self.lists.get("Examples", [])]
 
     def entries(self):
-        """The headings of arguments and options, with what stands below each."""
-        return [(heading, entries) for heading, entries in self.lists.items() if heading not in ("Commands", "Examples")]
+        """The headings of arguments, options and forms, with what stands below each, except what each command has: help, examples and pages."""
+        left_out = ("Commands", "Examples", "More")
+        lists = {heading: [entry for entry in entries if entry[0] != "-h, --help"] for heading, entries in self.lists.items() if heading not in left_out}
+        return [(heading, entries) for heading, entries in lists.items() if entries]
 
     def options(self):
-        return [word for _, entries in self.entries() for words, _ in entries for word in re.findall(r"--[a-z-]+", words)]
+        return [word for entries in self.lists.values() for words, _ in entries for word in re.findall(r"^(?:-h, )?(--[a-z-]+)", words)]
 
     def values(self):
         """Each option that takes a value, what the help calls the value, and the words of which it is one, if the help lists them."""
@@ -122,11 +165,11 @@ def helped(bqsim, *words):
     return Help(answer.stdout or answer.stderr)
 
 
-def run_examples(bqsim, told):
-    """Runs the examples of a help text in the folder of the repository."""
+def run_examples(bqsim, examples):
+    """Runs these commands in the folder of the repository, without writing the files that they write to."""
     shell = f'bqsim() {{ "{Path(bqsim).resolve()}" "$@"; }}; set -o pipefail; '
-    for line in told.examples():
-        answer = subprocess.run(["bash", "-c", shell + line], cwd=TOP, stdin=subprocess.DEVNULL, capture_output=True)
+    for line in examples:
+        answer = subprocess.run(["bash", "-c", shell + line.split(" > ")[0]], cwd=TOP, stdin=subprocess.DEVNULL, capture_output=True)
         if answer.returncode or not answer.stdout:
             sys.exit(f"the example {line} ends with {answer.returncode}: {answer.stderr.decode()}")
 
@@ -137,34 +180,61 @@ def roff(text):
     return "\\&" + text if text.startswith((".", "'")) else text
 
 
+def tagged(mark, entries):
+    """A list whose entries have their words, after this mark of the formatter, beside or above what they do."""
+    return [line for words, what in entries for line in (".TP", f".{mark} {roff(words)}", roff(what))]
+
+
+def parted(entries, said):
+    """The entries that no command before has, and lines that name the others, with the command that has them. A lone one is said again."""
+    known = {}
+    for words, what in entries:
+        if (words, what) in said:
+            known.setdefault(said[words, what], []).append(words)
+    known = {name: all_words for name, all_words in known.items() if len(all_words) > 1}
+    left_out = [words for all_words in known.values() for words in all_words]
+    others = [(", ".join(words.split(" <")[0] for words in all_words), f"as for bqsim {name}") for name, all_words in known.items()]
+    return [entry for entry in entries if entry[0] not in left_out], others
+
+
+def more(entries):
+    """The pages that say more, as a sentence."""
+    found = [f"{words} ({what[0].lower()}{what[1:]})" for words, what in entries]
+    return "More is in " + " and ".join([*([", ".join(found[:-1])] if found[1:] else []), found[-1]]) + "."
+
+
+def block(lines):
+    """Lines that stay as they are."""
+    return [".RS", ".nf", *map(roff, lines), ".fi", ".RE"]
+
+
 def page(program, commands):
-    lines = ['.TH BQSIM 1 "" bqsim "User commands"', ".SH NAME", f"bqsim \\- {roff(program.about[0].lower() + program.about[1:])}"]
-    lines += [".SH SYNOPSIS", ".B bqsim", "COMMAND [OPTIONS]"]
-    lines += [".SH DESCRIPTION", roff(DESCRIPTION[0])]
-    for name, what in DESCRIPTION[1:]:
-        lines += [".TP", f".I {name}", roff(what)]
-    lines += [".SH OPTIONS"]
-    for words, what in program.lists["Options"]:
-        lines += [".TP", f".B {roff(words)}", roff(what)]
-    lines += [".SH COMMANDS", ".SS bqsim help", "Prints the list of the commands, or the help of one", ".PP", "bqsim help [COMMAND]"]
+    lines = ['.TH BQSIM 1 "" bqsim "User commands"', ".SH NAME", f"bqsim \\- {roff(program.about[0].lower() + program.about[1:])}", ".SH SYNOPSIS"]
+    for number, words in enumerate(SYNOPSIS):
+        lines += [".br"] * (number > 0) + [".B bqsim", roff(words)]
+    lines += [".SH DESCRIPTION", *map(roff, DESCRIPTION), *tagged("I", WORDS)]
+    for paragraph in USE:
+        lines += [".PP", roff(paragraph)]
+    lines += [".SH OPTIONS", *tagged("B", program.lists["Options"]), ".PP", roff(HELP)]
+    lines += [".SH COMMANDS", "Each command takes \\-h or \\-\\-help too."]
+    said = {}
     for name, told in commands.items():
         lines += [f".SS bqsim {roff(name)}", roff(told.about), ".PP", roff(told.usage)]
         for heading, entries in told.entries():
             if heading not in ("Arguments", "Options"):
                 lines += [".PP", f"{roff(heading)}:"]
-            for words, what in entries:
-                lines += [".TP", f".B {roff(words)}", roff(what)]
-        lines += [".PP", "Examples:", ".RS", ".nf", *map(roff, told.examples()), ".fi", ".RE"]
-    lines += [".SH THE SCRIPT", "In a clone of the repository the script ./bqsim runs the program. It has some words of its own:"]
-    for words, what in SCRIPT:
-        lines += [".TP", f".B {roff(words)}", roff(what)]
-    lines += [".SH FILES", "In the repository:"]
-    for name, what in FOLDERS:
-        lines += [".TP", f".I {roff(name)}", roff(what)]
-    lines += [".SH EXIT STATUS"]
-    for status, what in STATUSES:
-        lines += [".TP", f".B {status}", roff(what)]
-    lines += [".SH SEE ALSO", "README.md and docs/ of bqsim's repository"]
+            new, others = parted(entries, said)
+            lines += tagged("B", new + others)
+            for words, what in new:
+                said.setdefault((words, what), name)
+        lines += [".PP", "Examples:", *block(told.examples()), ".PP", roff(more(told.lists["More"]))]
+    lines += [".SH EXIT STATUS", *tagged("B", STATUSES)]
+    lines += [".SH THE SCRIPT", "In a clone of the repository the script ./bqsim runs the program. It has some words of its own:", *tagged("B", SCRIPT)]
+    lines += [".SH FILES", "In the repository:", *tagged("I", FOLDERS)]
+    lines += [".SH EXAMPLES", "They run in the folder of the repository, where you write ./bqsim for bqsim."]
+    for what, line in EXAMPLES:
+        lines += [".PP", f"{roff(what)}:" if what[-1] != "?" else roff(what), *block([line])]
+    lines += [".SH SEE ALSO", "sched(7), perf\\-sched(1). In the repository:", *tagged("I", PAGES)]
     return "\n".join(lines) + "\n"
 
 
@@ -225,13 +295,13 @@ def main():
         sys.exit(__doc__)
     bqsim = sys.argv[1]
     program = helped(bqsim)
-    names = {words for words, _ in program.lists["Commands"]} - {"help"}
-    commands = {name: helped(bqsim, name) for name in sorted(names)}
+    commands = {name: helped(bqsim, name) for name, _ in program.lists["Commands"] if name != "help"}
     for told in (program, *commands.values()):
         if not told.examples():
             sys.exit(f"no examples: {told.usage}")
-        run_examples(bqsim, told)
-    made = {PAGE: page(program, commands), COMPLETION: completion(commands)}
+        run_examples(bqsim, told.examples())
+    run_examples(bqsim, [line for _, line in EXAMPLES])
+    made = {PAGE: page(program, commands), COMPLETION: completion(dict(sorted(commands.items())))}
     for path, text in made.items():
         if sys.argv[2:]:
             path.write_text(text)

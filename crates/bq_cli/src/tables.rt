@@ -43,38 +43,63 @@ macro_rules! options {
 /// The heading of the options for the part of a schedule that is shown, and for how it is shown.
 const SHOWN: &str = "What is shown";
 
-/// The end of a help page: examples, a line each. They run in the folder of the repository.
+/// The end of a help page: examples, a line each, and then where more is said. Other lines may come before them. The examples run in the folder of the
+/// repository.
 macro_rules! examples {
-    ($($line:literal),*) => {
-        concat!("Examples:" $(, "\n  ", $line)*)
+    ($($line:literal),*; $($more:literal),*) => {
+        concat!("Examples:" $(, "\n  ", $line)*, "\n\nMore:" $(, "\n  ", $more)*)
+    };
+    ($($before:literal),*; $($line:literal),*; $($more:literal),*) => {
+        concat!($($before, "\n",)* "\nExamples:" $(, "\n  ", $line)*, "\n\nMore:" $(, "\n  ", $more)*)
+    };
+}
+
+/// The end of a help page of a command that shows schedules: what its forms are, and then as above. The first text is about a form
+/// that only one command has.
+macro_rules! forms_and_examples {
+    ($form:literal; $($line:literal),*; $($more:literal),*) => {
+        concat!(
+            "Forms:",
+            "\n  report    Tables of tasks, latencies, processors, policies and bounds",
+            $form,
+            "\n  map       For a terminal: a row for each processor, a letter for each task",
+            "\n  timehist  A line for each run of a task, in the columns of perf sched timehist",
+            "\n  why       Each choice: the tasks from which it was made, and why this one runs",
+            "\n  svg       A picture for a browser or a slide",
+            "\n  perfetto  A file to open at https://ui.perfetto.dev",
+            "\n  csv       A row for each stretch that a task ran from one clock reading to the next",
+            "\n  json      The figures of the report in full, without its bounds",
+            "\n\nExamples:" $(, "\n  ", $line)*, "\n\nMore:" $(, "\n  ", $more)*
+        )
     };
 }
 
 /// The text of `asm`, and the image that it is assembled to.
 const ASM_OPTIONS: &[OptionText] = options! {
-    ("file", Alone("FILE"), "The assembler text; standard input without it, or as -"),
+    ("file", Alone("FILE"), "The assembler text; without it, or with -, standard input is read"),
     ("hook", Once("HOOK"), with_hooks!("Writes an image for this hook: ")),
-    ("maps", Once("MAPS"), "The value size and the entries of each map, as in 8:2,16:4"),
-    ("format", Once("FORMAT"), with_versions!("The version of the image: ", "; 1 is the default"))
+    ("maps", Once("MAPS"), "With --hook, the bytes of a value and the number of entries of each map, as in 8:2,16:4 for two maps; the default is no maps"),
+    ("format", Once("FORMAT"), with_versions!("With --hook, the version of the image: ", " (the default) or ", ""))
 };
 
 /// The file of the policy that is run.
 const RUN_FILE: &[OptionText] = options! {
-    ("file", Alone("FILE"), "The policy: an image, its hex, or assembler text with ;@ lines that describe it; standard input without it, or as -")
+    ("file", Alone("FILE"), "The policy: an image, its hex, or assembler text whose ;@ lines name its hook and maps; without it, or with -, standard input is read")
 };
 
 /// The file of the policy that is listed.
 const DIS_FILE: &[OptionText] = options! {
-    ("file", Alone("FILE"), "The policy: an image, its hex, or assembler text with ;@ lines that describe it; standard input as -, or with options alone. With neither a file nor an option, dis reads the hex of a program and writes its listing")
+    ("file", Alone("FILE"), "The policy: an image, its hex, or assembler text whose ;@ lines name its hook and maps; - is standard input. Without a file, standard input is read: with an option in any of these forms, without one only as the hex of a program")
 };
 
 /// The files of the policies that are judged.
 const CHECK_FILES: &[OptionText] = options! {
-    ("file", Several("FILE"), "The policies, each an image, its hex, or assembler text with ;@ lines that describe it; standard input as -, or with options alone. With neither a file nor an option, check reads the hex of an image and writes its hook and budget")
+    ("file", Several("FILE"), "The policies: each an image, its hex, or assembler text whose ;@ lines name its hook and maps; - is standard input. Without a file, standard input is read: with an option in any of these forms, without one only as the hex of an image")
 };
 
 /// What help says of a limit on files that are read whole.
-const MAX_BYTES: &str = "Refuses files of more than N bytes; the default is 16777216";
+const MAX_BYTES: &str =
+    "Refuses, with status 4, a file of more than N bytes; the default is 16777216 (16 MiB)";
 
 /// How much is read of a file that is read whole.
 const READING_OPTIONS: &[OptionText] = options! {
@@ -83,34 +108,34 @@ const READING_OPTIONS: &[OptionText] = options! {
 
 /// How much is read of a trace.
 const TRACE_READING_OPTIONS: &[OptionText] = options! {
-    ("max-bytes", Once("N"), "Stops at a trace of more than N bytes; there is no limit without it")
+    ("max-bytes", Once("N"), "Stops, with status 4, at a trace of more than N bytes; the default is no limit")
 };
 
 /// How much `simulate` reads, and how long its runs are.
 const LIMIT_OPTIONS: &[OptionText] = options! {
     "Limits";
     ("max-bytes", Once("N"), MAX_BYTES),
-    ("max-events", Once("N"), "Cuts off a run that has more than N events; there is no limit without it")
+    ("max-events", Once("N"), "Stops, with status 4, at a run of more than N events; the default is no limit")
 };
 
 /// What the file of a policy leaves unsaid.
 const POLICY_OPTIONS: &[OptionText] = options! {
     ("hook", Once("HOOK"), with_hooks!("The policy's hook, if the file does not say it: ")),
-    ("maps", Once("MAPS"), "The value size and the entries of each map, if the file does not say them, as in 8:2,16:4"),
-    ("format", Once("FORMAT"), with_versions!("The version of the image, if the file does not say it: ", "; 1 if neither says it"))
+    ("maps", Once("MAPS"), "The bytes of a value and the number of entries of each map, if the file does not say them, as in 8:2,16:4 for two maps; the default is no maps"),
+    ("format", Once("FORMAT"), with_versions!("The version of the image, if the file does not say it: ", " (the default) or ", ""))
 };
 
 /// What `check` answers, and what it refuses.
 const CHECK_OPTIONS: &[OptionText] = options! {
     ("explain", Flag, "Explains the verdict: for a refused policy its line, what is missing, what is known there and what helps"),
-    ("json", Flag, "Writes the answer and its explanation as one line of JSON"),
-    ("max-steps", Once("N"), "Refuses a policy whose runs may take more than N instructions"),
-    ("helpers", Once("LIST"), "Refuses a policy that calls a helper other than these, as in 1,2,5,8"),
+    ("json", Flag, "Writes the answer to each file and its explanation as one line of JSON"),
+    ("max-steps", Once("N"), "Refuses a policy of which a run may take more than N instructions"),
+    ("helpers", Once("LIST"), "Refuses a policy that calls a helper whose number is not one of these, as in 1,2,5,8"),
     ("hooks", Once("LIST"), "Refuses a policy for a hook other than these, as in place,pull"),
     ("max-maps", Once("N"), "Refuses a policy with more than N maps"),
     ("max-map-bytes", Once("N"), "Refuses a policy whose maps have more than N bytes in all"),
     ("max-counters", Once("N"), "Refuses a policy with more than N instructions that call a counter"),
-    ("image", Once("OUT"), "Writes the image of the policy, if it is accepted, as this file")
+    ("image", Once("OUT"), "Writes the image of the policy to this file, if the policy is accepted; only one policy may be given")
 };
 
 /// What `dis` writes.
@@ -120,70 +145,70 @@ const DIS_OPTIONS: &[OptionText] = options! {
 
 /// What a run begins with.
 const INPUT_OPTIONS: &[OptionText] = options! {
-    ("ctx", Once("HEX"), "The bytes of the context; all 0 without it"),
-    ("set", Often("FIELDS"), "Fields of the context by their names, as in task=3,mask=0x6,previous=none; other fields keep their bytes. docs/CONTEXTS.md has the names; a wrong one lists them"),
-    ("map", Often("ENTRY"), "An entry of a map by the map's number and its own, as in 0:0=0a00; bytes that are left out are 0"),
-    ("time", Once("T"), with_helper!(NOW, "The time that helper ", " answers, as 1500us, 1.5ms or 2s; 0 without it")),
-    ("processor", Once("P"), with_helper!(PROCESSOR, "The processor that helper ", " answers; 0 without it")),
-    ("counter", Often("COUNTER"), "A counter before the run, as in 3=10; others are 0")
+    ("ctx", Once("HEX"), "The whole context, in hex; the default is all 0"),
+    ("set", Often("FIELDS"), "Fields of the context by their names, as in task=3,mask=0x6,previous=none; the others are as --ctx has them, and you may repeat it. docs/CONTEXTS.md lists the names, as does the error for a wrong one"),
+    ("map", Often("ENTRY"), "The first bytes of an entry of a map, in hex, as in 0:2=0a00 for entry 2 of map 0; the other bytes are 0, and you may repeat it"),
+    ("time", Once("T"), with_helper!(NOW, "The time that helper ", " answers: nanoseconds, or a number with its unit, as in 1500us, 1.5ms or 2s; the default is 0")),
+    ("processor", Once("P"), with_helper!(PROCESSOR, "The processor that helper ", " answers; the default is 0")),
+    ("counter", Often("COUNTER"), "The value of a counter before the run, as in 3=10 for counter 3; the default is 0, and you may repeat it")
 };
 
 /// How a run is reported.
 const RUN_OPTIONS: &[OptionText] = options! {
     ("trace", Flag, "Writes each instruction that the run executes, its place and the registers that it changes"),
-    ("repeat", Once("N"), "Runs the policy N times, each on the maps and counters that the run before left, and shows the last run, the changed entries and the mean time")
+    ("repeat", Once("N"), "Runs the policy N times, each on the maps and counters that the run before left, and shows the last run, the changed entries and the mean time of a run")
 };
 
 /// The program of `import`, and the image that it is for.
 const IMPORT_OPTIONS: &[OptionText] = options! {
-    ("file", Alone("FILE"), "The object file, or the bytes or the hex of its text section; standard input without it, or as -"),
+    ("file", Alone("FILE"), "The object file, or the bytes or the hex of its text section; without it, or with -, standard input is read"),
     ("hook", Needed("HOOK"), with_hooks!("The policy's hook: ")),
-    ("maps", Once("MAPS"), "The value size and the entries of each map, as in 8:2,16:4"),
-    ("format", Once("FORMAT"), with_versions!("The version of the image: ", "; 1 is the default"))
+    ("maps", Once("MAPS"), "The bytes of a value and the number of entries of each map, as in 8:2,16:4 for two maps; the default is no maps"),
+    ("format", Once("FORMAT"), with_versions!("The version of the image: ", " (the default) or ", ""))
 };
 
 /// What `par` runs.
 const PAR_OPTIONS: &[OptionText] = options! {
-    ("rule", Needed("RULE"), with_disciplines!("How processors choose: ")),
-    ("processors", Needed("PROCESSORS"), with_sizes!("How many processors there are: ", " (a mask has a bit for each, 64 in all)")),
-    ("ticks", Needed("TICKS"), with_ticks!("How often each processor ticks: ", " (the history keeps each tick)"))
+    ("rule", Needed("RULE"), with_disciplines!("The discipline by which processors choose: ")),
+    ("processors", Needed("PROCESSORS"), with_sizes!("How many processors there are: ")),
+    ("ticks", Needed("TICKS"), with_ticks!("How many times each processor ticks: "))
 };
 
 /// The trace of `replay` and `timeline`.
 const TRACE_FILE: &[OptionText] = options! {
-    ("file", Alone("FILE"), "The trace; standard input without it, or as -")
+    ("file", Alone("FILE"), "The trace; without it, or with -, standard input is read")
 };
 
 /// The form of `timeline`.
 const TIMELINE_FORM: &[OptionText] = options! {
     SHOWN;
-    ("as", Once("FORM"), with_forms!("report (the default), "))
+    ("as", Once("FORM"), with_forms!("The form, as listed below: report (the default), "))
 };
 
 /// The part of a schedule that is shown.
 const PART_OPTIONS: &[OptionText] = options! {
     SHOWN;
-    ("from", Once("TIME"), "Shows only what happens from this time on, a number with its unit, as 1500us, 1.5ms or 2s; refused with report and json, whose figures are those of the whole"),
-    ("to", Once("TIME"), "Shows only what happens up to this time, a number with its unit; refused with report and json, whose figures are those of the whole"),
+    ("from", Once("TIME"), "Shows only what happens from this time on (a number with its unit, as in 1500us, 1.5ms or 2s); not with report or json, whose figures are those of the whole"),
+    ("to", Once("TIME"), "Shows only what happens up to this time; written as for --from, and not with report or json either"),
     ("cpus", Once("LIST"), "Shows only these processors, as in 0-3,8"),
-    ("tasks", Once("LIST"), "Shows only these tasks, as in 1-3,editor: numbers, ranges and names; a name begins with no digit"),
-    ("width", Once("COLUMNS"), with_columns!("How wide a map is, ", " without it")),
+    ("tasks", Once("LIST"), "Shows only these tasks, as in 1-3,editor: numbers, ranges, and names that do not begin with a digit"),
+    ("width", Once("COLUMNS"), with_columns!("How wide a map may be, in columns; the default is ", "")),
     ("theme", Once("THEME"), with_themes!("How an svg looks: light (the default), ")),
     ("title", Once("TEXT"), "The title above an svg")
 };
 
 /// The workload of `simulate`.
 const WORKLOAD_FILE: &[OptionText] = options! {
-    ("file", Alone("FILE"), "The workload; standard input without it, or as -")
+    ("file", Alone("FILE"), "The workload; without it, or with -, standard input is read")
 };
 
 /// What replaces parts of a workload's own machine, and its seed.
 const MACHINE_OPTIONS: &[OptionText] = options! {
     "Machine";
-    ("discipline", Once("RULE"), with_disciplines!("How processors choose, in place of the workload's own: ")),
-    ("processors", Once("P"), with_sizes!("How many processors, in place of the workload's own: ")),
-    ("duration", Once("TIME"), "How long it runs, in place of the workload's own, as 1500us, 1.5ms or 2s"),
-    ("seed", Once("N"), "The seed of drawn lengths, in place of the workload's own")
+    ("discipline", Once("DISCIPLINE"), with_disciplines!("The discipline by which processors choose: ", "; the default is the workload's, or else cfs")),
+    ("processors", Once("P"), with_sizes!("How many processors there are: ", "; the default is the workload's, or else 1")),
+    ("duration", Once("TIME"), "How long it runs in simulated time, as in 1500us, 1.5ms or 2s; the default is the workload's, or else 100ms"),
+    ("seed", Once("N"), "The seed from which random lengths are drawn; the default is the workload's, or else 1")
 };
 
 /// What help says of the policy at a hook, after what the hook decides.
@@ -192,7 +217,7 @@ macro_rules! hook_help {
         concat!(
             "The policy that decides ",
             $decides,
-            ": a file that bqsim check reads, or none, the default"
+            ": a file that bqsim check accepts, or none (the default) for the discipline's own choice"
         )
     };
 }
@@ -208,21 +233,21 @@ const HOOK_OPTIONS: &[OptionText] = options! {
 /// The seeds of `simulate`, and the policies that its own are compared with.
 const COMPARING_OPTIONS: &[OptionText] = options! {
     "Several runs";
-    ("seeds", Once("N"), "Runs the workload with N seeds, from its own on, and shows means and deviations"),
-    ("against", Often("POLICY"), "Runs the same seeds again with this policy instead, or with none, and shows both side by side; give it once for each policy")
+    ("seeds", Once("N"), "Runs the workload with N seeds, counted up from its own, and shows means and standard deviations, as report, csv or json"),
+    ("against", Often("POLICY"), "Runs the same seeds again with this policy instead, or with none, and shows both side by side; repeat it for a policy at another hook")
 };
 
 /// The form of `simulate`.
 const SIMULATE_FORM: &[OptionText] = options! {
     SHOWN;
-    ("as", Once("FORM"), with_forms!("report (the default), trace, "))
+    ("as", Once("FORM"), with_forms!("The form, as listed below: report (the default), trace, "))
 };
 
 /// The commands that show schedules.
 static SCHEDULE_COMMANDS: [CommandText<'static>; 2] = [
     CommandText {
         name: "simulate",
-        about: "Runs a workload and shows its schedule, or writes it as a trace",
+        about: "Runs a workload and shows its schedule; also tries and compares policies",
         options: &[
             WORKLOAD_FILE,
             MACHINE_OPTIONS,
@@ -232,25 +257,35 @@ static SCHEDULE_COMMANDS: [CommandText<'static>; 2] = [
             PART_OPTIONS,
             LIMIT_OPTIONS,
         ],
-        examples: examples![
+        examples: forms_and_examples![
+            "\n  trace     The events of the whole run, for replay and timeline to read";
             "bqsim simulate workloads/desktop.toml",
             "bqsim simulate --discipline eevdf --as map --to 100ms workloads/desktop.toml",
-            "bqsim simulate --seeds 10 --preempt policies/heavier_first.s --against none examples/lab/editor.toml"
+            "bqsim simulate --as svg workloads/desktop.toml > desktop.svg",
+            "bqsim simulate --preempt policies/heavier_first.s examples/lab/editor.toml",
+            "bqsim simulate --seeds 10 --preempt policies/heavier_first.s --against none examples/lab/editor.toml";
+            "docs/WORKLOADS.md  What a workload may say",
+            "docs/TIMELINE.md   Each form, and how to read it",
+            "docs/SEEDS.md      Several runs, and whether a difference is more than chance"
         ],
     },
     CommandText {
         name: "timeline",
-        about: "Shows the schedule of a trace",
+        about: "Shows the schedule of a trace: as tables, a map or a picture, or with the reason for each choice",
         options: &[
             TRACE_FILE,
             TIMELINE_FORM,
             TRACE_READING_OPTIONS,
             PART_OPTIONS,
         ],
-        examples: examples![
+        examples: forms_and_examples![
+            "";
             "bqsim timeline examples/four_tasks_cfs.trace",
             "bqsim timeline --as map --width 60 examples/four_tasks_eevdf.trace",
-            "bqsim timeline --as why --tasks 1-2 examples/why.trace"
+            "bqsim timeline --as svg examples/four_tasks_eevdf.trace > four_tasks.svg",
+            "bqsim timeline --as why --tasks 1-2 examples/why.trace";
+            "docs/TIMELINE.md  Each form, and how to read it",
+            "docs/TRACE.md     The lines of a trace"
         ],
     },
 ];
@@ -259,16 +294,19 @@ static SCHEDULE_COMMANDS: [CommandText<'static>; 2] = [
 static POLICY_COMMANDS: [CommandText<'static>; 2] = [
     CommandText {
         name: "check",
-        about: "Judges policies: accepted, or refused and why",
+        about: "Says whether policies are safe to run, and with --explain why one is refused",
         options: &[CHECK_FILES, POLICY_OPTIONS, READING_OPTIONS, CHECK_OPTIONS],
         examples: examples![
             "bqsim check --explain policies/keep_home.s",
-            "bqsim check --json --max-steps 100 policies/keep_home.s policies/heaviest.s"
+            "bqsim check --json --max-steps 100 policies/keep_home.s policies/heaviest.s";
+            "docs/POLICIES.md  What a policy can do, and what each answer means",
+            "docs/REFUSALS.md  Why policies are refused, and what helps",
+            "docs/BPF.md       The helpers and their numbers"
         ],
     },
     CommandText {
         name: "run",
-        about: "Runs a policy once: its answer, whether that is permitted, and what it changed",
+        about: "Runs a policy once on values that you choose: its answer, whether that is permitted, and what it changed",
         options: &[
             RUN_FILE,
             POLICY_OPTIONS,
@@ -279,7 +317,9 @@ static POLICY_COMMANDS: [CommandText<'static>; 2] = [
         examples: examples![
             "bqsim run --set task=3,mask=0x6,processors=4,previous=1 policies/keep_home.s",
             "bqsim run --trace policies/heavier_first.s",
-            "bqsim run --repeat 4 --map 0:0=05 policies/every_fourth_tick.s"
+            "bqsim run --repeat 4 --map 0:0=05 policies/every_fourth_tick.s";
+            "docs/CONTEXTS.md  The fields of each context, and which answers are permitted",
+            "docs/POLICIES.md  How to read the output"
         ],
     },
 ];
@@ -288,47 +328,54 @@ static POLICY_COMMANDS: [CommandText<'static>; 2] = [
 static OTHER_COMMANDS: [CommandText<'static>; 5] = [
     CommandText {
         name: "replay",
-        about: "Reads a trace and writes the reply to each line",
+        about: "Writes the scheduler's reply to each line of a trace",
         options: &[TRACE_FILE, TRACE_READING_OPTIONS],
         examples: examples![
             "bqsim replay examples/four_tasks_cfs.trace",
-            "bqsim simulate --as trace workloads/desktop.toml | bqsim replay"
+            "bqsim simulate --as trace workloads/desktop.toml | bqsim replay";
+            "docs/TRACE.md  The lines of a trace, and their replies"
         ],
     },
     CommandText {
         name: "asm",
-        about: "Assembles a text to the hex of its program",
+        about: "Assembles the text of a policy to hex: its program, or with --hook its image",
         options: &[ASM_OPTIONS, READING_OPTIONS],
         examples: examples![
             "bqsim asm policies/heaviest.s",
-            "bqsim asm --hook place --format 2 policies/keep_home.s"
+            "bqsim asm --hook place --format 2 policies/keep_home.s";
+            "docs/ASSEMBLER.md  The instructions as text",
+            "docs/IMAGE.md      The bytes of an image"
         ],
     },
     CommandText {
         name: "dis",
-        about: "Lists a policy as assembler text",
+        about: "Lists a policy of any form as assembler text",
         options: &[DIS_FILE, POLICY_OPTIONS, READING_OPTIONS, DIS_OPTIONS],
         examples: examples![
             "bqsim dis policies/keep_home.s",
-            "bqsim dis --slots policies/heaviest.s"
+            "bqsim dis --slots policies/heaviest.s";
+            "docs/ASSEMBLER.md  The instructions as text",
+            "docs/POLICIES.md   The forms of a policy"
         ],
     },
     CommandText {
         name: "import",
-        about: "Writes a compiled policy as assembler text",
+        about: "Turns a policy that clang compiled into assembler text",
         options: &[IMPORT_OPTIONS, READING_OPTIONS],
         examples: examples![
             "bqsim asm policies/keep_home.s | bqsim import --hook place",
-            "bqsim asm policies/every_fourth_tick.s | bqsim import --hook preempt --maps 8:1"
+            "bqsim asm policies/every_fourth_tick.s | bqsim import --hook preempt --maps 8:1";
+            "docs/POLICIES_IN_C.md  How to write and compile a policy in C"
         ],
     },
     CommandText {
         name: "par",
-        about: "Runs each processor in a thread of its own, and reports their one history",
+        about: "Runs each processor in a thread of its own, and counts the events of their one history",
         options: &[PAR_OPTIONS],
         examples: examples![
             "bqsim par --rule cfs --processors 4 --ticks 1000",
-            "bqsim par --rule eevdf --processors 2 --ticks 10"
+            "bqsim par --rule eevdf --processors 2 --ticks 10";
+            "docs/MACHINE.md  The scheduler for threads"
         ],
     },
 ];
@@ -339,12 +386,31 @@ pub fn program<'a>(alloc: Global) -> Result<Command<'a>, AllocError>
 {
     let program = bq_console::program(
         alloc,
-        "Simulates processors that choose among their tasks as CFS and EEVDF do",
+        "Simulates a multiprocessor scheduler like Linux's CFS or EEVDF, whose choices small BPF programs can make",
         VERSION,
         examples![
+            "Words:",
+            "  workload  A TOML text that says what tasks do; simulate works out when they do it",
+            "  trace     A text with an event on each line, such as a wake or a tick of a clock",
+            "  policy    A small BPF program that chooses at one hook:",
+            "            place    where a woken task goes",
+            "            preempt  whether the running task gives way",
+            "            pull     which task another processor takes",
+            "",
+            "Exit status:",
+            "  0  All is well",
+            "  1  What was read is refused: a policy, a text, a workload or a line of a trace",
+            "  2  A command, an option or its value is wrong, or you asked for help",
+            "  3  Memory ran out",
+            "  4  A read or a write failed, a file can't be opened, or a limit is passed";
             "bqsim simulate workloads/desktop.toml",
+            "bqsim simulate --as svg workloads/desktop.toml > desktop.svg",
             "bqsim timeline --as map examples/four_tasks_cfs.trace",
-            "bqsim check --explain policies/keep_home.s"
+            "bqsim check --explain policies/keep_home.s",
+            "bqsim simulate --seeds 10 --preempt policies/heavier_first.s --against none examples/lab/editor.toml";
+            "bqsim COMMAND --help  The options, defaults and examples of a command; begin with simulate",
+            "docs/GUIDE.md         A tour, task by task",
+            "docs/bqsim.1          The man page: man -l docs/bqsim.1"
         ],
     )?;
     let program = with_schedule_commands(alloc, program)?;

@@ -43,7 +43,7 @@ pub struct CommandText<'a> {
     pub about: &'static str,
     /// Its options, table after table.
     pub options: &'a [&'a [OptionText]],
-    /// What its help page ends with: examples of the command.
+    /// What its help page ends with: examples of the command, and where more is said.
     pub examples: &'static str,
 }
 
