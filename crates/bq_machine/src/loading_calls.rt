@@ -127,13 +127,13 @@ impl<Q: RunQueue + Drop, K: Clock + Drop, N: Naming + Counting, const P: usize> 
         let policy = policy_of(alloc, hook, image)?;
         let count = self.cpus.len();
         let (Ok(()), Ok(spares), Ok(mut installs)) = (
-            record_room(alloc, &mut seat.first),
+            record_room(alloc, &mut seat.record_room),
             spares(alloc, &policy, count),
             Vec::with_capacity(alloc, count),
         ) else {
             return Err(LoadRefused::Refusal(Refusal::OutOfMemory));
         };
-        let (draw, generation) = self.draw(rt, &mut seat.working, &mut seat.first);
+        let (draw, generation) = self.draw(rt, &mut seat.working, &mut seat.record_room);
         let loading = Loading {
             hook,
             generation,

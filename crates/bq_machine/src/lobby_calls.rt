@@ -98,8 +98,8 @@ impl<Q: RunQueue + Drop, K: Clock + Drop, N: Naming + Counting, const P: usize> 
         ensures err { OnErr result (seat.new ≡ seat.old) }
     {
         let count = self.cpus.len();
-        let new = new_task_with_room(alloc, &mut seat.first, count, admission)?;
-        Ok(self.admit_to_lobby(rt, &mut seat.working, &mut seat.first, admission, new))
+        let new = new_task_with_room(alloc, &mut seat.record_room, count, admission)?;
+        Ok(self.admit_to_lobby(rt, &mut seat.working, &mut seat.record_room, admission, new))
     }
 
     /// An admission under the lock of the lobby, from the lock to the record.
@@ -153,8 +153,8 @@ impl<Q: RunQueue + Drop, K: Clock + Drop, N: Naming + Counting, const P: usize> 
         if let Some(refusal) = argument_refusal(self.cpus.len(), &event) {
             return Err(refusal);
         }
-        record_room(alloc, &mut seat.first)?;
-        Ok(self.retire_from_lobby(rt, &mut seat.working, &mut seat.first, task))
+        record_room(alloc, &mut seat.record_room)?;
+        Ok(self.retire_from_lobby(rt, &mut seat.working, &mut seat.record_room, task))
     }
 
     /// A retirement under the lock of the lobby, from the lock to the record.

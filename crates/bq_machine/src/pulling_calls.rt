@@ -42,12 +42,12 @@ impl<Q: RunQueue + Drop, K: Clock + Drop, N: Naming + Counting, const P: usize> 
         ensures err { OnErr result (seat.new ≡ seat.old) }
     {
         self.need_both(processor, from)?;
-        rooms_of_event(alloc, &mut seat.first, &mut seat.rooms)?;
+        rooms_of_event(alloc, &mut seat.record_room, &mut seat.call_rooms)?;
         Ok(self.pull_at(
             rt,
             &mut seat.working,
-            &mut seat.first,
-            &mut seat.rooms,
+            &mut seat.record_room,
+            &mut seat.call_rooms,
             processor,
             from,
         ))

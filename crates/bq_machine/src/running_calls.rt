@@ -38,12 +38,17 @@ impl<Q: RunQueue + Drop, K: Clock + Drop, N: Naming + Counting, const P: usize> 
         ensures refused { IfErr result (IsCallRefused P (Event.Tick processor 0)) }
         ensures err { OnErr result (seat.new ≡ seat.old) }
     {
-        self.begin_call(alloc, &mut seat.first, &mut seat.rooms, processor)?;
+        self.begin_call(
+            alloc,
+            &mut seat.record_room,
+            &mut seat.call_rooms,
+            processor,
+        )?;
         Ok(self.tick_at(
             rt,
             &mut seat.working,
-            &mut seat.first,
-            &mut seat.rooms,
+            &mut seat.record_room,
+            &mut seat.call_rooms,
             processor,
         ))
     }
@@ -99,12 +104,17 @@ impl<Q: RunQueue + Drop, K: Clock + Drop, N: Naming + Counting, const P: usize> 
         ensures refused { IfErr result (IsCallRefused P (Event.Drain processor 0)) }
         ensures err { OnErr result (seat.new ≡ seat.old) }
     {
-        self.begin_call(alloc, &mut seat.first, &mut seat.rooms, processor)?;
+        self.begin_call(
+            alloc,
+            &mut seat.record_room,
+            &mut seat.call_rooms,
+            processor,
+        )?;
         Ok(self.drain_at(
             rt,
             &mut seat.working,
-            &mut seat.first,
-            &mut seat.rooms,
+            &mut seat.record_room,
+            &mut seat.call_rooms,
             processor,
         ))
     }
@@ -173,8 +183,8 @@ impl<Q: RunQueue + Drop, K: Clock + Drop, N: Naming + Counting, const P: usize> 
         ensures err { OnErr result (seat.new ≡ seat.old) }
     {
         self.need_processor(processor)?;
-        record_room(alloc, &mut seat.first)?;
-        Ok(self.block_at(rt, &mut seat.working, &mut seat.first, processor))
+        record_room(alloc, &mut seat.record_room)?;
+        Ok(self.block_at(rt, &mut seat.working, &mut seat.record_room, processor))
     }
 
     /// A block under the locks of the processor and the lobby, from the locks to the record.
