@@ -91,7 +91,7 @@ impl<Q: RunQueue + Drop, K: Clock + Drop, N: Naming + Counting, const P: usize> 
             &mut counter_board,
         );
         working.close_board(counter_board);
-        let calls = hold_calls(calls, content.scratch.calls());
+        let held = hold_calls(calls, content.scratch.calls());
         let mut journal = self.recorder.lock_journal(rt);
         let kept = journal.kept().after_pull(processor, from, &reply);
         let event = Event::Pull {
@@ -99,7 +99,7 @@ impl<Q: RunQueue + Drop, K: Clock + Drop, N: Naming + Counting, const P: usize> 
             from,
             now,
         };
-        let draft = Records::of(event, &Ok(reply), calls).draft(room, kept);
+        let draft = Records::of(event, &Ok(reply), held).draft(room, kept);
         working.commit_two(
             &self.recorder.history,
             &mut *journal,

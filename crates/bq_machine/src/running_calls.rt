@@ -82,8 +82,8 @@ impl<Q: RunQueue + Drop, K: Clock + Drop, N: Naming + Counting, const P: usize> 
             .state
             .tick(processor, now, &mut content.scratch, &mut counter_board);
         working.close_board(counter_board);
-        let calls = hold_calls(calls, content.scratch.calls());
-        let draft = Records::of_tick(processor, now, reply, calls).draft(room, None);
+        let held = hold_calls(calls, content.scratch.calls());
+        let draft = Records::of_tick(processor, now, reply, held).draft(room, None);
         let mut journal = self.recorder.lock_journal(rt);
         working.commit_one(&self.recorder.history, &mut *journal, &mut cpu.cell, draft)
     }
@@ -153,9 +153,9 @@ impl<Q: RunQueue + Drop, K: Clock + Drop, N: Naming + Counting, const P: usize> 
             &mut counter_board,
         );
         working.close_board(counter_board);
-        let calls = hold_calls(calls, content.scratch.calls());
+        let held = hold_calls(calls, content.scratch.calls());
         let event = Event::Drain { processor, now };
-        let draft = Records::of(event, &Ok(reply), calls).draft(room, None);
+        let draft = Records::of(event, &Ok(reply), held).draft(room, None);
         let mut journal = self.recorder.lock_journal(rt);
         working.commit_two(
             &self.recorder.history,
