@@ -3,6 +3,7 @@
 //! (`look`, `look_at_both`): that brings the fact to the proof, and changes nothing.
 ghost use Rattle.std.specs.Prelude.{◌≡◌, ◌≤◌, ◌<◌, vec_len};
 ghost use Rattle.std.specs.Sync.Mutex.{mutex_guard_value};
+ghost use Rattle.bq_disc.specs.declared.limits.TheConstants.{PROCESSORS};
 
 use crate::clock::Clock;
 use bq_bpf::board::COUNTERS;
@@ -59,7 +60,7 @@ pub struct Machine<Q: RunQueue + Drop, K: Clock + Drop, N: Naming + Counting, co
     ghost about: { recorder.history.about ≡ P },
     ghost counted: { vec_len cpus ≡ P },
     ghost one_each: { vec_len inboxes ≡ P },
-    ghost few: { P ≤ 64 },
+    ghost few: { P ≤ PROCESSORS },
     ghost seated: { seats ≡ recorder.history.callers },
 }
 

@@ -1,6 +1,7 @@
 //! What all callers share besides the locks of the world's parts.
 ghost use Rattle.std.specs.Prelude.{◌≡◌, ◌≤◌, ◌<◌, ◌+◌, ◌^◌, length};
 ghost use Rattle.std.specs.Sync.Mutex.{mutex_guard_value};
+ghost use Rattle.bq_disc.specs.declared.limits.TheConstants.{PROCESSORS};
 
 use bq_disc::RunQueue;
 use bq_history::{Cell, Journal, Naming};
@@ -28,7 +29,7 @@ pub struct Recorder<Q: RunQueue + Drop, N: Naming + Counting> {
     pub history: Shared<Q, N>,
     pub counters: Counters<N>,
     pub journal: Mutex<Journal<Record, WorldPart, JournalState, N>>,
-    pub ghost few: { history.about ≤ 64 },
+    pub ghost few: { history.about ≤ PROCESSORS },
     pub ghost same: { counters ≡ history.callers },
 }
 
