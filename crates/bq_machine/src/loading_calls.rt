@@ -18,7 +18,7 @@ use bq_hooks::Hook;
 use bq_installed::Policy;
 use bq_load::{LoadFault, load};
 use bq_parts::{Event, Refusal, Reply};
-use bq_recording::{Seat, WorkingSeat};
+use bq_recording::{MachineSeat, WorkingSeat};
 use bq_shared::{Counting, Record, record_room};
 use std::alloc::Global;
 use std::sync::Wait;
@@ -115,7 +115,7 @@ impl<Q: RunQueue + Drop, K: Clock + Drop, N: Naming + Counting, const P: usize> 
         &self,
         rt: &R,
         alloc: Global,
-        seat: &mut Seat<N>,
+        seat: &mut MachineSeat<N>,
         hook: Hook,
         image: Option<&[u8]>,
     ) -> Result<LoadReceipts, LoadRefused>

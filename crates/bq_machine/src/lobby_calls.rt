@@ -14,7 +14,7 @@ use bq_disc::RunQueue;
 use bq_disc::limits::PROCESSORS;
 use bq_history::{Naming, Receipt, Room};
 use bq_parts::{Event, Refusal, Unlinked, new_task};
-use bq_recording::{Seat, WorkingSeat};
+use bq_recording::{MachineSeat, WorkingSeat};
 use bq_shared::{Counting, Record, record_room};
 use std::alloc::Global;
 use std::sync::Wait;
@@ -88,7 +88,7 @@ impl<Q: RunQueue + Drop, K: Clock + Drop, N: Naming + Counting, const P: usize> 
         &self,
         rt: &R,
         alloc: Global,
-        seat: &mut Seat<N>,
+        seat: &mut MachineSeat<N>,
         admission: Admission,
     ) -> Result<Receipt<Record>, Refusal>
         ensures receipt { IfOk result (λ r. seat.new ≡ (seat.old.0, seat.old.1 ++ r ∷ [])) }
@@ -140,7 +140,7 @@ impl<Q: RunQueue + Drop, K: Clock + Drop, N: Naming + Counting, const P: usize> 
         &self,
         rt: &R,
         alloc: Global,
-        seat: &mut Seat<N>,
+        seat: &mut MachineSeat<N>,
         task: u16,
     ) -> Result<Receipt<Record>, Refusal>
         ensures receipt { IfOk result (λ r. seat.new ≡ (seat.old.0, seat.old.1 ++ r ∷ [])) }

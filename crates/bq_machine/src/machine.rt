@@ -9,7 +9,7 @@ use crate::clock::Clock;
 use bq_bpf::board::COUNTERS;
 use bq_disc::RunQueue;
 use bq_history::Naming;
-use bq_recording::{ClosingRoom, Recorder, Seat, lock, need_own};
+use bq_recording::{ClosingRoom, MachineSeat, Recorder, lock, need_own};
 use bq_shared::{Counting, NumberedCpu, NumberedInbox, OneLobby, UnderLock};
 use std::sync::{Mutex, MutexGuard, Wait};
 
@@ -71,7 +71,7 @@ impl<Q: RunQueue + Drop, K: Clock + Drop, N: Naming + Counting, const P: usize> 
     P,
 > {
     /// The value of a counter. It takes no lock and no memory, and is not recorded.
-    pub fn counter(&self, seat: &mut Seat<N>, counter: u8) -> u64
+    pub fn counter(&self, seat: &mut MachineSeat<N>, counter: u8) -> u64
         requires { counter < COUNTERS }
         ensures { seat.new ≡ seat.old }
     {

@@ -7,7 +7,7 @@ use crate::machine::Machine;
 use bq_disc::RunQueue;
 use bq_disc::limits::{FIRST_MARK, PROCESSORS};
 use bq_history::Naming;
-use bq_recording::{Opening, Prepared, Seat, no_tasks};
+use bq_recording::{MachineSeat, Opening, Prepared, no_tasks};
 use bq_shared::{Counting, UnnamedCounters};
 use std::alloc::{AllocError, Global};
 
@@ -24,7 +24,7 @@ impl<Q: RunQueue + Drop, K: Clock + Drop, N: Naming + Counting, const P: usize> 
         prepared: Prepared<Q>,
         unnamed: UnnamedCounters,
         seat_count: u64,
-    ) -> Result<(Machine<Q, K, N, P>, Vec<Seat<N>>), AllocError>
+    ) -> Result<(Machine<Q, K, N, P>, Vec<MachineSeat<N>>), AllocError>
         requires few { P ≤ PROCESSORS }
         requires name { prepared.0 ≡ N.table }
         requires counters { unnamed.0 ≡ N.counters }
@@ -45,7 +45,7 @@ impl<Q: RunQueue + Drop, K: Clock + Drop, N: Naming + Counting, const P: usize> 
         prepared: Prepared<Q>,
         unnamed: UnnamedCounters,
         seat_count: u64,
-    ) -> Result<(Machine<Q, K, N, P>, Vec<Seat<N>>), AllocError>
+    ) -> Result<(Machine<Q, K, N, P>, Vec<MachineSeat<N>>), AllocError>
         requires few { P ≤ PROCESSORS }
         requires name { prepared.0 ≡ N.table }
         requires counters { unnamed.0 ≡ N.counters }

@@ -13,7 +13,7 @@ use crate::records::Records;
 use bq_disc::RunQueue;
 use bq_history::{Naming, Receipt, Room, look_at_both};
 use bq_parts::{Event, Refusal};
-use bq_recording::{Seat, WorkingSeat};
+use bq_recording::{MachineSeat, WorkingSeat};
 use bq_shared::{CallRooms, Counting, Record, hold_calls};
 use std::alloc::Global;
 use std::sync::Wait;
@@ -31,7 +31,7 @@ impl<Q: RunQueue + Drop, K: Clock + Drop, N: Naming + Counting, const P: usize> 
         &self,
         rt: &R,
         alloc: Global,
-        seat: &mut Seat<N>,
+        seat: &mut MachineSeat<N>,
         processor: u8,
         from: u8,
     ) -> Result<Receipt<Record>, Refusal>

@@ -23,7 +23,7 @@ use bq_disc::RunQueue;
 use bq_disc::limits::{PROCESSORS, TASKS};
 use bq_history::{Naming, Receipt, Room};
 use bq_parts::{Event, Placement, Refusal, Reply};
-use bq_recording::{CpuCell, Seat, WorkingSeat};
+use bq_recording::{CpuCell, MachineSeat, WorkingSeat};
 use bq_shared::{
     CallRooms, Counters, Counting, NumberedCpu, PackedAnswer, Record, hold_calls, loads_room,
     record_room,
@@ -72,7 +72,7 @@ impl<Q: RunQueue + Drop, K: Clock + Drop, N: Naming + Counting, const P: usize> 
         &self,
         rt: &R,
         alloc: Global,
-        seat: &mut Seat<N>,
+        seat: &mut MachineSeat<N>,
         processor: u8,
         task: u16,
     ) -> Result<WakeReceipts, Refusal>

@@ -8,7 +8,7 @@ use crate::play::{Play, Step};
 use bq_history::{Naming, Receipt};
 use bq_hooks::Hook;
 use bq_machine::Machine;
-use bq_recording::Seat;
+use bq_recording::MachineSeat;
 use bq_shared::{Counting, Record};
 use std::alloc::Global;
 use std::process::Abort;
@@ -35,7 +35,7 @@ pub struct Player<'a, N: Naming + Counting, R: Abort + Wait> {
     pub alloc: Global,
     pub machine: &'a Raced<N>,
     pub gate: &'a Gate,
-    pub seat: Seat<N>,
+    pub seat: MachineSeat<N>,
     pub receipts: Vec<Receipt<Record>>,
     pub read: Option<[u64; 3]>,
 }

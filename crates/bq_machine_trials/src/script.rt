@@ -8,7 +8,7 @@ use crate::play::{Play, Script};
 use crate::player::{Player, Raced};
 use bq_disc::limits::FIRST_MARK;
 use bq_history::{Naming, Receipt};
-use bq_recording::{Closed, Prepared, Seat, prepare};
+use bq_recording::{Closed, MachineSeat, Prepared, prepare};
 use bq_shared::{Counting, Record, UnnamedCounters};
 use std::alloc::{AllocError, Global};
 use std::marker::Brand;
@@ -19,14 +19,14 @@ use std::thread::{Threads, map_vec};
 /// A seat, and what its thread is to do.
 #[derive(Drop)]
 pub struct Job<N: Naming + Counting> {
-    pub seat: Seat<N>,
+    pub seat: MachineSeat<N>,
     pub play: Play,
 }
 
 /// A seat with the receipts that it got, and counters 0, 3 and 63, if it read them.
 #[derive(Drop)]
 pub struct Played<N: Naming + Counting> {
-    pub seat: Seat<N>,
+    pub seat: MachineSeat<N>,
     pub receipts: Vec<Receipt<Record>>,
     pub read: Option<[u64; 3]>,
 }
@@ -96,7 +96,7 @@ fn work<N: Naming + Counting, R: Abort + Wait>(
 /// What was collected so far: seats that have come back, receipts, and what was read last of the counters.
 #[derive(Drop)]
 struct Collected<N: Naming + Counting> {
-    seats: Vec<Seat<N>>,
+    seats: Vec<MachineSeat<N>>,
     receipts: Vec<Vec<Receipt<Record>>>,
     read: Option<[u64; 3]>,
 }
@@ -156,7 +156,7 @@ fn play_script<N: Naming + Counting + Send + Sync, R: Abort + Threads + Wait + S
     alloc: Global,
     machine: &Raced<N>,
     gate: &Gate,
-    seats: Vec<Seat<N>>,
+    seats: Vec<MachineSeat<N>>,
     script: &Script<'_>,
 ) -> Collected<N> {
     let mut collected = Collected {

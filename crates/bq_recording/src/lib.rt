@@ -20,4 +20,4 @@ pub use locked_parts::{PartLocks, part_locks};
 pub use opening::Opening;
 pub use prepared::{Prepared, prepare};
 pub use queues::no_tasks;
-pub use recorder::{CpuCell, Recorder, Seat, WorkingSeat, lock, need_own};
+pub use recorder::{CpuCell, MachineSeat, Recorder, WorkingSeat, lock, need_own};

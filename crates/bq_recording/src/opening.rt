@@ -8,7 +8,7 @@ ghost use Rattle.bq_shared.specs.Parts.{first_parts};
 
 use crate::locked_parts::{PartLocks, part_locks};
 use crate::prepared::Prepared;
-use crate::{ClosingRoom, Recorder, Seat};
+use crate::{ClosingRoom, MachineSeat, Recorder};
 use bq_disc::RunQueue;
 use bq_history::{Holder, Item, Journal, Naming};
 use bq_hooks::Loads;
@@ -45,7 +45,7 @@ impl<Q: RunQueue + Drop, N: Naming + Counting, const P: usize> Opening<Q, N, P> 
         prepared: Prepared<Q>,
         unnamed: UnnamedCounters,
         seat_count: u64,
-    ) -> Result<(Opening<Q, N, P>, Vec<Seat<N>>), AllocError>
+    ) -> Result<(Opening<Q, N, P>, Vec<MachineSeat<N>>), AllocError>
         requires few { P ≤ PROCESSORS }
         requires name { prepared.0 ≡ N.table }
         requires counters { unnamed.0 ≡ N.counters }

@@ -10,8 +10,8 @@ use bq_shared::{
 };
 use std::sync::{Mutex, MutexGuard, Wait};
 
-/// A caller's end of a machine. Contracts see its number and its receipts, in order.
-pub type Seat<N> = bq_shared::Seat<Record, WorldPart, JournalState, N>;
+/// A caller's access to a machine. Contracts see its number and its receipts, in order.
+pub type MachineSeat<N> = bq_shared::Seat<Record, WorldPart, JournalState, N>;
 
 /// What a seat has while an event is under way.
 pub type WorkingSeat<N> = Working<Record, WorldPart, JournalState, N>;
