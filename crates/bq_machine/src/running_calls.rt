@@ -1,4 +1,4 @@
-//! The calls of one processor: its clock ticks, its inbox's tasks enter, and its running task goes to sleep.
+//! The calls at one processor: its clock ticks, the tasks of its inbox enter its queue, and its running task goes to sleep.
 ghost use Rattle.std.specs.Prelude.{◌≡◌, ◌∷◌, ◌++◌, ◌<◌, ℕ, [], IfOk, IfErr, OnErr, is_some, true};
 ghost use Rattle.bq_shared.specs.Calls.{account_of};
 ghost use Rattle.bq_shared.specs.Parts.{reported_calls};

@@ -42,8 +42,8 @@ pub struct Locks<Q: RunQueue + Drop, N: Naming + Counting, const P: usize> {
 }
 
 /// Ends a machine. `seats` must be all its seats, each once. Each event of the history is a step of the world, from the
-/// opening world to the core's. No event in it has refused arguments or ran out of memory. The receipts of the seats share
-/// the history out. Each counter is the sum of the adds in the history, modulo 2^64. It takes no memory.
+/// opening world to the core's. No event in it has refused arguments or ran out of memory. Each event has one
+/// receipt, at one of the seats. Each counter is the sum of the adds in the history, modulo 2^64. It takes no memory.
 pub fn close<Q: RunQueue + Drop, N: Naming + Counting, const P: usize>(
     locks: Locks<Q, N, P>,
     seats: Vec<Seat<Record, WorldPart, JournalState, N>>,

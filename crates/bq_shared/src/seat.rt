@@ -22,7 +22,7 @@ pub trait ReportsCalls {
 /// the calls in those receipts.
 #[derive(Drop)]
 pub struct Seat<R: ReportsCalls + Drop, P, D, N: Naming + Counting> {
-    /// The caller and its account, which an event that is under way has alone.
+    /// The caller and its account. An event borrows them apart from the rooms.
     pub working: Working<R, P, D, N>,
     /// Room for the record of the next event.
     pub record_room: Room<R>,
