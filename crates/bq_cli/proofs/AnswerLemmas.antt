@@ -8,11 +8,11 @@ use Rattle.bq_streams.specs.Reading.{GivesAll, GivesSome}
 use Rattle.bq_cli.specs.Filtering.{FiltersAll, FilteringBreaksOff}
 
 module _ (Writes : List ℕ → Bool → List ℕ → Type 0) (from to old : Option (List ℕ)) where
-  -- nothing was written
+  -- if some was read and nothing was written, the command breaks off
   pub broken_before : GivesSome from to → FilteringBreaksOff Writes from to old old
   broken_before gave = inl (gave, Keeps-refl old)
 
-  -- all was read, and its answer is the whole of what was written
+  -- if all was read and its whole answer was written, the command has answered all of it
   pub answered : (new : Option (List ℕ)) (items input output : List ℕ) (accepted ended : Bool)
       → GivesAll from to items → input ≡ items → Writes input accepted output → (ended ≡ accepted) × Appends old new output
       → FiltersAll Writes from to old new ended
@@ -24,7 +24,7 @@ module _ (Writes : List ℕ → Bool → List ℕ → Type 0) (from to old : Opt
     answers = subst (λ a. Writes input a output) (sym wrote.0) answers;
   }
 
-  -- all was read, and a beginning of its answer was written
+  -- if all was read and a beginning of its answer was written, the command breaks off
   pub broken_in : (new : Option (List ℕ)) (items input output : List ℕ) (accepted : Bool)
       → GivesAll from to items → input ≡ items → Writes input accepted output → AppendsPart old new output
       → FilteringBreaksOff Writes from to old new

@@ -13,7 +13,7 @@ use Rattle.bq_cli.specs.declared.par.ParWords.{ParWords}
 abbrev first : Text → ℕ
 first text = slice_index_or text 0 0
 
--- a name and its rows, of an entry that is there
+-- the name and the rows of an entry, read one by one or together, are the same
 pub name_and_rows_of_entry : {B : Type 0} (o : Option B) (f : B → Text) (g : B → List Row) (word name : Text)
     (rows rows' : List Row)
     → option_map f o ≡ Some word
@@ -27,7 +27,7 @@ name_and_rows_of_entry (Some x) f g word name rows rows' a b e =
     let same : g x ≡ rows = ap (λ (p : Text × List Row). p.1) pair in
     (sym names ∙ same_Some (f x) word a, sym same ∙ same_Some (g x) rows' b)
 
--- only `par` has its name
+-- a command with the name of `par` is `par`, with the values that were found for it
 pub only_par_has_its_name : (rows rows' : List Row) (c : Command) (Out : Type 0)
     → command_name c ≡ codes "par" → rows ≡ rows' → HasValues rows c → ((p : ParWords) → AreParWords rows' p → Out)
     → Out

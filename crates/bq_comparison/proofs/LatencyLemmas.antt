@@ -10,6 +10,7 @@ use Rattle.bq_comparison.specs.declared.naming.Figure.TheVariants as figure
 use Rattle.bq_comparison.specs.Gathering.{latency_in, own_latency}
 use Rattle.bq_comparison.specs.Values.{AreReordered, IsFigureValue}
 
+-- a latency that is taken of a task, if there is one, is added to that task's latencies only
 takes_latency : (id : ℕ) (latency : Option ℕ) (old new : Tasks) → TakesLatency id latency old new → (task : ℕ)
     → latencies_of new task ≡ latencies_of old task ++ own_latency task id latency
 takes_latency id None old new h task = h task ∙ sym (append-nil (latencies_of old task))

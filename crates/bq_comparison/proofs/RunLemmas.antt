@@ -45,6 +45,7 @@ AreRuns-append policies w most figures seed (x ∷ xs) more h k =
     let P : ℕ → Type 0 = λ s. AreResults policies w most figures s (map Ok more) in
     (h.0, AreRuns-append policies w most figures (seed + 1) xs more h.1 (subst P (omega arith) k))
 
+-- the result of a run that came to its end
 abbrev ended : RunFigures → Result RunFigures SeedsFault
 ended = Ok
 

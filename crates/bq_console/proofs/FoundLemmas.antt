@@ -8,13 +8,14 @@ use Rattle.clap.specs.Matches.{first_value}
 use Rattle.clap.specs.Walk.{Row, first_of, row_of, rows_of}
 use Rattle.clap.specs.declared.parser.matches.Found.{Found}
 
--- the first value among rows is that among entries
+-- the first value of an option among these rows is that among these entries
 abbrev SameFirst : List ℕ → List Row → List Entry → Type 0
 SameFirst id rows entries =
     first_of id rows
     ≡ option_and_then (λ a. option_map (λ s. s.now) (slice_get a.vals.items 0))
     (option_map (λ e. e.1) (find (λ e. bytes_eq e.0.now id) entries))
 
+-- it is so for the rows that are made of the entries
 first_in : (id : List ℕ) (entries : List Entry) → SameFirst id (map row_of entries) entries
 first_in id [] = refl
 first_in id (e ∷ entries) = go (bytes_eq e.0.now id) (first_in id entries)

@@ -30,7 +30,7 @@ pub gives_none : {A : Type 0} (Gives : A → Type 0) (e : WordsFault) (why : Str
     → e ≡ Words why → GivesNone Gives e → (a : A) → ¬ Gives a
 gives_none {A} Gives e why is none = subst (λ (f : WordsFault). GivesNone Gives f) is none
 
--- a word that stands for no value
+-- a word that stands for no value is neither read as one nor missing
 pub no_value : {A : Type 0} (P : List ℕ → A → Type 0) (word : List ℕ)
     → ((a : A) → ¬ P word a) → (value : Option A) → ¬ GivesWord P (Some word) value
 no_value P word none None h = h

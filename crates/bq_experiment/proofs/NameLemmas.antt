@@ -32,7 +32,7 @@ use Rattle.bq_words.specs.Words.{is_space, words}
 use Rattle.bq_experiment.specs.Names.{LearnsAll, comment_by, comment_of, comments_by, comments_from, comments_of, name_of_task, names_of_kind, names_of, plain_name, plain_of}
 use Rattle.bq_experiment.specs.Traces.{skipped}
 
--- the comments of some tasks, and of those behind them
+-- the comments of some tasks and of those behind them are the comments of all, joined
 comments_by-append : (spell : List ℕ → List ℕ) (task : ℕ) (xs ys : List (List ℕ))
     → comments_by spell task (xs ++ ys) ≡ comments_by spell task xs ++ comments_by spell (task + length xs) ys
 comments_by-append spell task [] ys = ap (λ n. comments_by spell n ys) (omega arith)
@@ -41,12 +41,12 @@ comments_by-append spell task (x ∷ xs) ys =
     ap (λ l. comment_by spell task x ∷ l) (comments_by-append spell (task + 1) xs ys)
     ∙ ap (λ n. comment_by spell task x ∷ (comments_by spell (task + 1) xs ++ comments_by spell n ys)) behind
 
--- there is one for each
+-- there is one comment for each name
 pub length-comments_by : (spell : List ℕ → List ℕ) (task : ℕ) (names : List (List ℕ)) → length (comments_by spell task names) ≡ length names
 length-comments_by spell task [] = refl
 length-comments_by spell task (name ∷ names) = let h = length-comments_by spell (task + 1) names in omega arith
 
--- one task more is named
+-- the comments of one task more are those before and its own
 pub comments-more : (spell : List ℕ → List ℕ) (names : List (String Global)) (task : ℕ) (name : String Global)
     → task < length names
     → comments_by spell 0 (map string_bytes (take (task + 1) names))
@@ -58,7 +58,7 @@ comments-more spell names task name low =
     ∙ comments_by-append spell 0 before (string_bytes (get_or names task name) ∷ [])
     ∙ ap (λ n. comments_by spell 0 before ++ comment_by spell n (string_bytes (get_or names task name)) ∷ []) so_far
 
--- one more comment is reported
+-- the reported comments of one task more are those before and its own
 pub reported-more : (names : List (String Global)) (task : ℕ) (name : String Global) (line : List ℕ)
     → task < length names → line ≡ comment_of task (string_bytes (get_or names task name))
     → map skipped (comments_from 0 (map string_bytes (take task names))) ++ skipped line ∷ []
@@ -69,28 +69,30 @@ reported-more names task name line low is =
     ∙ sym (ap (map skipped) (comments-more plain_name names task name low)
     ∙ map-append skipped before (comment_of task (string_bytes (get_or names task name)) ∷ []))
 
--- one comment more is learnt from
+-- what is learnt from some comments, and then from one more, is learnt from all of them
 pub learns_more : (xs : List (List ℕ)) (comment : List ℕ) (old mid new : NamedTasks)
     → LearnsAll xs old mid → Learns comment mid new → LearnsAll (xs ++ comment ∷ []) old new
 learns_more [] comment old mid new h k = (new, subst (λ (n : NamedTasks). Learns comment n new) h k, refl)
 learns_more (x ∷ xs) comment old mid new h k = (h.0, h.1, learns_more xs comment h.0 mid new h.2 k)
 
--- what a viewer keeps it keeps on
+-- what a viewer keeps in one step and keeps in the next it keeps in both
 pub rests_on : (a b c : Viewer) → ViewerRests a b → ViewerRests b c → ViewerRests a c
 rests_on a b c h k = record { schedule = k.schedule ∙ h.schedule; troubles = k.troubles ∙ h.troubles; asked = k.asked ∙ h.asked }
 
--- a text has no more characters than bytes
+-- what is left of a text has at most one character more than it has bytes
 chars_after_short : (n c : ℕ) (bs : List ℕ) → length (chars_after n c bs) ≤ length bs + 1
 chars_after_short zero c [] = omega arith
 chars_after_short zero c (b ∷ bs) = let h = chars_after_short (continuation_len b) (lead_bits b) bs in omega arith
 chars_after_short (suc n) c [] = omega arith
 chars_after_short (suc n) c (b ∷ bs) = let h = chars_after_short n (c * 64 + (b - 128)) bs in omega (arith, h)
 
+-- a text has no more characters than bytes
 chars_short : (bs : List ℕ) → length (chars bs) ≤ length bs
 unfolding chars
 chars_short [] = omega arith
 chars_short (b ∷ bs) = let h = chars_after_short (continuation_len b) (lead_bits b) bs in omega (arith, h)
 
+-- a plain name is no longer than the name that it was made of
 plain_short : (name : List ℕ) → length (plain_name name) ≤ length name
 plain_short name = let h = chars_short name in simp length-map (omega arith)
 
@@ -98,6 +100,7 @@ plain_short name = let h = chars_short name in simp length-map (omega arith)
 plain_allowed : (letter : ℕ) → is_allowed (plain_of letter) ≡ true
 plain_allowed letter = grind (arith, nat_tests)
 
+-- so may each character of a plain name
 plains_allowed : (letters : List ℕ) → list_all is_allowed (map plain_of letters) ≡ true
 plains_allowed [] = refl
 plains_allowed (letter ∷ letters) = rw (plain_allowed letter) (plains_allowed letters)
@@ -113,6 +116,7 @@ allowed_comment task name fits =
 byte_ascii : (b : ℕ) → is_allowed b ≡ true → b < 128
 byte_ascii b h = grind (arith, nat_tests)
 
+-- each byte of a text that may stand in a line is below 128
 bytes_ascii : (bs : List ℕ) → list_all is_allowed bs ≡ true → (i : ℕ) → get_or bs i 0 < 128
 bytes_ascii [] h i = omega arith
 bytes_ascii (b ∷ bs) h zero = byte_ascii b (and_parts (is_allowed b) (list_all is_allowed bs) h).0
@@ -129,9 +133,11 @@ first_word task name =
 abbrev pub IsShort : List ℕ → Type 0
 IsShort name = length name ≤ 2000
 
+-- four texts, one behind the other, are as long as the four together
 length-parts : (a b c d : List ℕ) → length (a ++ (b ++ (c ++ d))) ≡ length a + (length b + (length c + length d))
 length-parts a b c d = simp length-append refl
 
+-- a comment that names a task by a short name is short enough for a line
 short_comment : (task : ℕ) (name : List ℕ) → task < 2 ^ 64 → IsShort name → length (comment_of task name) ≤ 131072
 short_comment task name fits short =
     let number = short_decimal task fits in
@@ -152,6 +158,7 @@ is_comment task name fits short =
     let fit : ltb 131072 (length (comment_of task name)) ≡ false = grind (arith, nat_tests) in
     record { whole = allowed_whole (comment_of task name) allowed; reads = rw (fit, allowed) (first_word task name) }
 
+-- the comments that name tasks by short names are comments of a trace
 are_comments_from : (task : ℕ) (names : List (List ℕ)) → task + length names ≤ 2 ^ 64 → AllByRecursion IsShort names
     → AllByRecursion IsComment (comments_from task names)
 are_comments_from task [] few short = tt
@@ -180,10 +187,12 @@ length-names_of (kind ∷ kinds) =
     let sum : tasks_in (kind ∷ kinds) ≡ kind.count + tasks_in kinds = sum_by-cons (λ (k : TaskKind). k.count) kind kinds in
     omega (arith, mine, others, parts, sum)
 
+-- what holds of each text of two lists holds of each text of both, joined
 all_both : (P : List ℕ → Type 0) (xs ys : List (List ℕ)) → AllByRecursion P xs → AllByRecursion P ys → AllByRecursion P (xs ++ ys)
 all_both P [] ys h k = k
 all_both P (x ∷ xs) ys h k = (h.0, all_both P xs ys h.1 k)
 
+-- the name of one task of a kind is short, where the kind's name is, and so are those of its tasks and of all tasks:
 short_name_in : (kind : TaskKind) (number : ℕ) → length (string_bytes kind.name) ≤ 1024 → number < 2 ^ 64 → IsShort (name_of_task kind number)
 short_name_in kind number named fits = of (kind.count == 1)
   where
@@ -211,6 +220,7 @@ short_names_of (kind ∷ kinds) named few =
     all_both IsShort (names_of_kind kind) (names_of kinds) (short_names_in kind 0 kind.count named.0 (omega arith))
     (short_names_of kinds named.1 (omega arith))
 
+-- a workload without a flaw has few enough names for the numbers of its tasks to fit
 few_names : (w : Workload) → first_flaw w ≡ None → 0 + length (names_of w.tasks.items) ≤ 2 ^ 64
 few_names w sound = let few = sound-few w sound in let same = length-names_of w.tasks.items in omega (arith, few, same)
 

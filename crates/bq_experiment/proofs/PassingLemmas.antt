@@ -25,12 +25,12 @@ pub events_in-append : (xs ys : Reported) → events_in (xs ++ ys) ≡ events_in
 events_in-append [] ys = omega arith
 events_in-append ((n, x) ∷ xs) ys = let rest = events_in-append xs ys in omega (arith, rest)
 
--- a text that is kept has grown
+-- a text that is kept has grown by what was added to it
 grown : (was : Option (List ℕ)) (old mid bs : List ℕ) → mid ≡ old ++ bs → Appends (append_known was old) (append_known was mid) bs
 grown None old mid bs e = tt
 grown (Some a) old mid bs e = ap (λ l. a ++ l) e ∙ sym (append_assoc a old bs)
 
--- a text that has grown is passed on
+-- a text that is passed on, and then emptied, has grown by what was added to it
 grown_and_passed : (was now : Option (List ℕ)) (old mid new bs : List ℕ)
     → mid ≡ old ++ bs → new ≡ [] → Appends was now mid
     → Appends (append_known was old) (append_known now new) bs
@@ -64,12 +64,14 @@ pub record Grows (old : TraceWriter) (was : Option (List ℕ)) (reported : Repor
   pub added : Appends (append_known was (pending old)) (append_known now (pending new))
       (with_feeds (reported_lines (image_at old.images) reported))
 
+-- they grow by the lines of one event
 record GrowsByOne (old : TraceWriter) (was : Option (List ℕ)) (traced : TraceEvent) (new : TraceWriter)
     (now : Option (List ℕ)) : Type 0 where
   images : new.images ≡ old.images
   fits : IsFitting traced
   added : Appends (append_known was (pending old)) (append_known now (pending new)) (with_feeds (traced_lines (image_at old.images) traced))
 
+-- a text grows by the lines of an event that is taken, whether it is then kept or passed on
 grows_by_one : (old new : TraceWriter) (was now : Option (List ℕ)) (n : ℕ) (traced : TraceEvent)
     → TakesAndPasses Takes pending Clears old was n traced new now → GrowsByOne old was traced new now
 grows_by_one old new was now n traced h =

@@ -10,12 +10,13 @@ use Rattle.bq_simulate.specs.Texts.{ByHook}
 use Rattle.bq_simulate.specs.Simulations.{Accepted}
 use Rattle.bq_experiment.specs.Standing.{AddsPolicy, AreOfTheirImages, Standing, image_for}
 
+-- each hook is the same hook as itself
 itself : (hook : Hook) → same_hook hook hook ≡ true
 itself Place = refl
 itself Preempt = refl
 itself Pull = refl
 
--- an image that is there stays
+-- an image that is there stays when one more comes, by cases:
 stays_by : (here : Bool) (image : Option (List ℕ)) (old new : Option (List ℕ)) (bytes : List ℕ)
     → (old ≡ Some bytes → new ≡ Some bytes) → cond here image old ≡ Some bytes
     → cond here image new ≡ Some bytes
@@ -29,7 +30,7 @@ stays ((place, image) ∷ images) more hook bytes there =
     stays_by (same_hook place hook) (Some image) (image_for images hook) (image_for (images ++ more ∷ []) hook)
     bytes (stays images more hook bytes) there
 
--- one that comes to a hook at which none was is there
+-- an image that comes to a hook at which none was is there, by cases:
 comes_by : (here : Bool) (image : List ℕ) (old new : Option (List ℕ)) (bytes : List ℕ)
     → (old ≡ None → new ≡ Some bytes) → cond here (Some image) old ≡ None
     → cond here (Some image) new ≡ Some bytes
@@ -48,6 +49,7 @@ of_image : (image : Option (List ℕ)) (bytes : List ℕ) (policy : Accepted)
     → image ≡ Some bytes → IsLoadedFromImage (Some bytes) policy → IsLoadedFromImage image policy
 of_image image bytes policy is h = subst (λ (i : Option (List ℕ)). IsLoadedFromImage i policy) (sym is) h
 
+-- policies that are those of their images stay so when one more image comes
 stay : (images : List (Hook × List ℕ)) (more : Hook × List ℕ) (policies : List Accepted)
     → AreOfImages (image_for images) policies → AreOfImages (image_for (images ++ more ∷ [])) policies
 stay images more [] h = tt
@@ -57,13 +59,14 @@ stay images more (policy ∷ policies) h =
       stay images more policies h.1,
     )
 
+-- policies that are those of their images, and one more such policy, all are
 push : (images : ByHook) (policies : List Accepted) (policy : Accepted)
     → AreOfImages images policies → IsLoadedFromImage (images policy.hook) policy
     → AreOfImages images (policies ++ policy ∷ [])
 push images [] policy h one = (one, tt)
 push images (p ∷ policies) policy h one = (h.0, push images policies policy h.1 one)
 
--- one policy and its image more, for a hook at which none was
+-- each policy is that of its image, too, after one more came with an image for a hook at which none was
 pub AreOfTheirImages-adds : (hook : Hook) (image : List ℕ) (policy : Accepted) (old new : Standing)
     → AddsPolicy hook image policy old new → policy.hook ≡ hook → image_for old.images hook ≡ None
     → IsLoadedFromImage (Some image) policy → AreOfTheirImages old
@@ -77,7 +80,7 @@ AreOfTheirImages-adds hook image policy old new adds at free of h =
     subst (λ (l : List Accepted). AreOfImages (image_for new.images) l) (sym adds.loaded)
     (subst (λ (i : List (Hook × List ℕ)). AreOfImages (image_for i) (old.loaded ++ policy ∷ [])) (sym adds.images) all)
 
--- what stood there before some more came
+-- the first members of a list are the same after others came behind them
 pub front_as_before : {A : Type 0} (count : ℕ) (xs ys : List A) → count ≡ length xs → take count (xs ++ ys) ≡ xs
 front_as_before {A = A} count xs ys is = rw is (all xs)
   where

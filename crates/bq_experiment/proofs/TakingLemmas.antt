@@ -15,6 +15,7 @@ use Rattle.bq_experiment.specs.Taking.{AsksForHook, IsFileRefusal, IsRead, IsAtt
 use Rattle.bq_experiment.specs.declared.policies.AttachFault.{AttachFault}
 use Rattle.bq_experiment.specs.declared.policies.AttachFault.TheVariants as attach
 
+-- where a hook is asked for, no other hook is named, whether it is combined with the file's or compared to it:
 either_is : (given stated : Option Hook) (hook named : Hook) → given ≡ Some hook → either given stated ≡ Some named → named ≡ hook
 either_is (Some other) stated hook named is e = cc
 either_is None stated hook named is e = cc
@@ -23,6 +24,7 @@ agrees : (given : Option Hook) (hook named : Hook) → given ≡ Some hook → A
 agrees (Some other) hook named is e = cc
 agrees None hook named is e = cc
 
+-- where a hook is asked for, the policy that a file is read as is for that hook, first for each kind of file:
 of_kind : (k : FileKind) (bytes : List ℕ) (asked : Head) (policy : PolicySource) (hook : Hook)
     → asked.hook ≡ Some hook → IsPolicyOfKind k bytes asked policy → policy.form.hook ≡ hook
 of_kind kind.Image bytes asked policy hook is h = agrees asked.hook hook policy.form.hook is h.agrees.hooks
@@ -64,6 +66,7 @@ takes_at (Ok x) hook asked file old new (at, t) asks =
     subst (λ (h : Hook). Attaches (IsRead (Some hook) file) h old new) is (taken (Some hook) asked file at old new t asks)
 takes_at (Err e) hook asked file old new t asks = tt
 
+-- why what was asked for is not taken is why the file is not taken
 fault_reported : (hook : Option Hook) (asked : Head) (file : List ℕ) (old : Standing) (fault : AttachFault)
     → IsAttachFault (IsPolicy file asked) (IsPolicyFault file asked) old fault → AsksForHook hook asked
     → IsAttachFault (IsRead hook file) (IsFileRefusal hook file) old fault

@@ -48,7 +48,7 @@ last_field h x y =
     let field = h x.0 y.0 in
     (λ e. λ i. (field.0 e i, tt), λ e. field.1 (ap (λ p. p.0) e))
 
--- a field before others
+-- the test of a field, and then that of the fields behind it, tells whether two are the same
 pub and_field : {A B : Type 0} {E : A → A → Bool} {F : B → B → Bool}
     → ((a b : A) → Decides (E a b) (a ≡ b)) → ((a b : B) → Decides (F a b) (a ≡ b))
     → (x y : A × B) → Decides (E x.0 y.0 && F x.1 y.1) (x ≡ y)

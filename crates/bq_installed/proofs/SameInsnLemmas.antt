@@ -24,7 +24,7 @@ use Rattle.bq_insn.specs.contracts.InsnPartialEq.TheImpl as same_insn
 use Rattle.bq_insn.specs.contracts.SourcePartialEq.TheImpl as same_source
 use Rattle.bq_installed.proofs.DecidingLemmas.{by_decides, bare_decides, no_field, last_field, and_field, ◌&then◌}
 
--- `==` on each of these tells whether two are the same
+-- `==` on each type of an instruction's fields tells whether two values are the same:
 bits_decides : (a b : Bits) → Decides (sameb bits.the_type a b) (a ≡ b)
 bits_decides = bare_decides bits.the_type tt
 

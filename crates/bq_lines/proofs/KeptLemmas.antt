@@ -16,6 +16,7 @@ length_unkept line h = unkept (length line) (ltb 131073 (length line)) refl h.ke
     unkept n true e k = grind (arith, nat_tests)
     unkept n false e k = cc
 
+-- a line that is too long is bad
 reading_of-long : (line : List ℕ) → ltb 131072 (length line) ≡ true → reading_of line ≡ Bad
 unfolding reading_of
 reading_of-long line e = rw e refl
@@ -24,6 +25,7 @@ reading_of-long line e = rw e refl
 short_line-long : (line : List ℕ) → 131072 < length line → short_line line ≡ None
 short_line-long line long = let e : ltb 131072 (length line) ≡ true = grind (arith, nat_tests) in rw e refl
 
+-- a line is at most one byte longer than without its carriage return
 length-strip : (line : List ℕ) → length line ≤ length (strip_carriage_return line) + 1
 length-strip line = stripped (eqb (slice_index line (length line - 1)) 13)
   where

@@ -1,4 +1,4 @@
--- One more install at the end of some.
+-- Installs on processors in order, and one more on the next processor.
 use Rattle.std.proofs.Common.{◌≡◌, ℕ, zero, suc, ◌+◌, List, [], ◌∷◌, ◌++◌, Option, subst, arith}
 use Rattle.bq_hooks.specs.declared.hook.Hook.{Hook}
 use Rattle.bq_verify.specs.Accepted.{Accepted}
@@ -7,7 +7,7 @@ use Rattle.bq_parts.specs.declared.event.Event.TheVariants.{Install}
 use Rattle.bq_shared.specs.declared.record.Record.{Record}
 use Rattle.bq_machine.specs.Calls.{AreInstalls}
 
--- the receipt of the next processor comes behind
+-- the receipts of installs on n processors, and then that of the next processor, are those of n + 1 processors
 pub installs_more : (c n : ℕ) (h : Hook) (g : ℕ) (o : Option Accepted) (xs : List (Receipt Record)) (x : Receipt Record)
     → AreInstalls c n h g o xs → x.entry.event ≡ Install (c + n) h g o
     → AreInstalls c (n + 1) h g o (xs ++ x ∷ [])

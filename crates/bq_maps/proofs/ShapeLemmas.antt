@@ -20,7 +20,7 @@ before_push : {X : Type 0} (xs : List X) (y x : X) (m : ℕ) → m < length xs �
 before_push xs y x m lt found =
     slice_get-get_or xs m x lt ∙ ap Some (sym (get_or_append_left xs (y ∷ []) x m lt) ∙ get_or_from_slice_get (xs ++ y ∷ []) m x x found)
 
--- one more map of one more shape
+-- maps of their shapes, and one more map of one more shape, are maps of all these shapes
 pub have_more : (shapes : List MapShape) (maps : List (List ℕ)) (shape : MapShape) (bytes : List ℕ)
     → HaveShapes shapes maps → length bytes ≡ shape.value_size * shape.entries → AreBytes bytes
     → HaveShapes (shapes ++ shape ∷ []) (maps ++ bytes ∷ [])
@@ -87,6 +87,7 @@ bytes_after bytes m v new part at lt is long after =
     with_items_is v new long ∙ after ∙ ap (λ (o : List ℕ). overwrite o at part) old in
     map-set f bytes m (with_items v new) ∙ ap (λ (l : List ℕ). set (map f bytes) m l) items
 
+-- each member of a list of zeros is 0, and so is what is past its end
 replicate_zero : (n i : ℕ) → get_or {A = ℕ} (replicate n 0) i 0 ≡ 0
 replicate_zero n i = at (cases_lt i n)
   where
@@ -98,7 +99,7 @@ replicate_zero n i = at (cases_lt i n)
 pub zeros_are_bytes : (n : ℕ) → AreBytes (replicate n 0)
 zeros_are_bytes n i b found = let none = replicate_zero n i in omega (arith, get_or_from_slice_get (replicate n 0) i b 0 found)
 
--- one more map of zeros
+-- if all bytes of the maps are 0, so are all with one more map of zeros
 pub zero_more : (maps : List (List ℕ)) (n : ℕ) → ((m i : ℕ) → get_or (get_or maps m []) i 0 ≡ 0)
     → (m i : ℕ) → get_or (get_or (maps ++ replicate n 0 ∷ []) m []) i 0 ≡ 0
 zero_more maps n before m i = at (cases_lt m (length maps)) (cases_lt (length maps) m)

@@ -8,17 +8,17 @@ use Rattle.bq_history.specs.declared.shared_state.Receipt.{Receipt}
 use Rattle.bq_shared.specs.Calls.{fresh_callers}
 
 module _ {A : Type 0} where
-  -- one sum, in two words
+  -- two names for one sum
   pub total_sum : (f : A → ℕ) (xs : List A) → total f xs ≡ sum_by f xs
   total_sum f [] = refl
   total_sum f (x ∷ xs) = ap (λ n. f x + n) (total_sum f xs) ∙ sym (sum_by-cons f x xs)
 
-  -- as often the same number
+  -- the sum over items of which each counts n is their number times n
   pub total_times : (f : A → ℕ) (n : ℕ) (xs : List A) → Each (λ x. f x ≡ n) xs → total f xs ≡ length xs * n
   total_times f n [] each = omega arith
   total_times f n (x ∷ xs) (first, rest) = let h = total_times f n xs rest in omega (arith, first, h)
 
-  -- what each has, the one at each place has
+  -- what holds of each item holds of the item at each place
   pub each_at : (P : A → Type 0) (xs : List A) → Each P xs → All P xs
   each_at P [] each k d lt = absurd (omega arith)
   each_at P (x ∷ xs) (first, rest) zero d lt = first
@@ -29,14 +29,14 @@ pub total_map : {A B : Type 0} (f : B → ℕ) (g : A → B) (xs : List A) → t
 total_map f g [] = refl
 total_map f g (x ∷ xs) = ap (λ n. f (g x) + n) (total_map f g xs) ∙ sym (sum_by-cons (λ y. f (g y)) x xs)
 
--- one more on either side
+-- two lists with the same images have the same images with one more item of the same image each
 pub same_more : {A B C : Type 0} (f : A → C) (g : B → C) (xs : List A) (ys : List B) (x : A) (y : B)
     → map g ys ≡ map f xs → g y ≡ f x → map g (ys ++ y ∷ []) ≡ map f (xs ++ x ∷ [])
 same_more f g xs ys x y e here =
     map_push g ys y ∙ (ap (λ zs. zs ++ g y ∷ []) e ∙ (ap (λ z. map f xs ++ z ∷ []) here ∙ sym (map_push f xs x)))
 
 module _ {A B X : Type 0} (f : A → List X) (g : B → List X) where
-  -- what is so of all items of the lists of the one is so of those of the other
+  -- what holds of all items of the lists of one side holds of those of the other side, if the lists are the same
   same_items : (P : X → Type 0) (Q : A → Type 0) (xs : List A) (ys : List B)
       → map g ys ≡ map f xs → Each (λ x. Each P (f x) × Q x) xs → Each (λ y. All P (g y)) ys
   same_items P Q [] [] e each = tt
@@ -47,12 +47,12 @@ module _ {A B X : Type 0} (f : A → List X) (g : B → List X) where
       let tail : map g ys ≡ map f xs = cc in
       (rw head (each_at P (f x) first.0), same_items P Q xs ys tail rest)
 
-  -- what is so of all items of the lists of the one is so of those of the other, at each place
+  -- it holds of them at each place, too
   pub all_items : (P : X → Type 0) (Q : A → Type 0) (xs : List A) (ys : List B)
       → map g ys ≡ map f xs → Each (λ x. Each P (f x) × Q x) xs → All (λ y. All P (g y)) ys
   all_items P Q xs ys e each = each_at (λ y. All P (g y)) ys (same_items P Q xs ys e each)
 
-  -- they have as many items
+  -- the lists of both sides have as many items together
   pub same_many : (xs : List A) (ys : List B) → map g ys ≡ map f xs → sum_by (λ y. length (g y)) ys ≡ total (λ x. length (f x)) xs
   same_many xs ys e = sym (total_sum (λ y. length (g y)) ys) ∙ many xs ys e
     where
@@ -67,12 +67,12 @@ module _ {A B X : Type 0} (f : A → List X) (g : B → List X) where
           let here = ap (λ l. length l) head in
           omega (arith, here, rest)
 
--- this many seats
+-- there are n fresh callers
 pub fresh_many : (R : Type 0) (s n : ℕ) → let l : List (ℕ × List (Receipt R)) = fresh_callers s n in length l ≡ n
 fresh_many R s zero = refl
 fresh_many R s (suc n) = ap suc (fresh_many R (s + 1) n)
 
--- their numbers are below that, and none has a receipt
+-- the numbers of n fresh callers from s on are below s + n, and none has a receipt
 pub fresh_none : (R : Type 0) (s n : ℕ) → Each (λ (c : ℕ × List (Receipt R)). (c.0 < s + n) × (c.1 ≡ [])) (fresh_callers s n)
 fresh_none R s zero = tt
 fresh_none R s (suc n) =

@@ -30,25 +30,28 @@ use Rattle.bq_shared.specs.contracts.law.WorldPart as WorldPart
 use Rattle.bq_shared.proofs.SendLemmas.{record_send}
 use Rattle.bq_par.specs.contracts.shift.ReturnedSeat as ReturnedSeat
 
+-- a slip may cross threads where what it is for may, first what is inside it and then the slip itself:
 slip_inside : (T : RattleType) → IsSend T → IsSend (slip.the_row T)
 slip_inside T s = search (crosses, knot.crosses, sendable) depth 60 fits 20000
 
 slip_send : (T : RattleType) → IsSend T → IsSend (Slip.the_row T)
 slip_send T s = view_send (slip.the_row T) _ _ _ _ (slip_inside T s)
 
+-- a spare slip for a chunk, or none, may
 spare_send : (R : RattleType) → IsSend (Slip.the_row (Chunk.the_row R)) → IsSend (Option.the_row (Slip.the_row (Chunk.the_row R)))
 spare_send R s = search (crosses, sendable) depth 20
 
--- room for a record
+-- room for a record may, where the record may
 pub room_send : (R : RattleType) → IsSend R → IsSend (Room.the_row R)
 room_send R s =
     view_send (room.the_row R) _ _ _ _
     (declared_send (room.the_type R) (spare_send R (slip_send (Chunk.the_row R) (chunk_send R s)), tt))
 
+-- the rooms for calls, or none, may
 calls_send : IsSend (Option.the_row CallRooms.the_row)
 calls_send = search (crosses, list.the_send, call.the_send, sendable) depth 40
 
--- a seat
+-- a seat may
 pub seat_send : (N : RattleType) (n : Naming.Ghosts N.Denot) (m : Counting.Ghosts N.Denot)
     → IsSend (Seat.the_row Record.the_row WorldPart.the_row JournalState.the_row N reported.ghosts n m)
 seat_send N n m =
@@ -57,10 +60,11 @@ seat_send N n m =
     (declared_send (seat.the_type Record.the_row WorldPart.the_row JournalState.the_row N reported.ghosts n m)
     (search (working.the_send, crosses, sendable) depth 20, (spare, (spare, (calls_send, tt)))))
 
+-- a receipt may
 receipt_send : IsSend (Receipt.the_row Record.the_row)
 receipt_send = search (receipt.the_send, record_send) depth 10
 
--- a seat that has come back, and its receipts
+-- a seat that has come back, and its receipts, may
 pub done_send : (N : RattleType) (n : Naming.Ghosts N.Denot) (m : Counting.Ghosts N.Denot) → IsSend (ReturnedSeat.the_row N n m)
 done_send N n m =
     declared_send (ReturnedSeat.the_type N n m) (seat_send N n m, (Vec-send (Receipt.the_row Record.the_row) receipt_send, tt))

@@ -16,6 +16,7 @@ use Rattle.bq_cfs.specs.contracts.discipline.CfsDiscipline.TheImpl as cfs
 use Rattle.bq_eevdf.specs.contracts.discipline.Eevdf as Eevdf
 use Rattle.bq_eevdf.specs.contracts.discipline.EevdfDiscipline.TheImpl as eevdf
 
+-- a tree of tasks without sums may cross threads
 cfs_tree_send : IsSend (Tree.the_row NoSums.the_row no_sums.ghosts)
 cfs_tree_send = search (crosses, knot.crosses, sendable) depth 60 fits 20000
 

@@ -34,13 +34,15 @@ use Rattle.bq_recording.specs.contracts.recorder.Recorder as Recorder
 use Rattle.bq_machine.specs.contracts.machine.Machine as Machine
 use Rattle.bq_machine.specs.declared.clock.Clock as Clock
 
+-- a lock may be shared where what it guards may cross threads
 mutex_sync : (T : RattleType) → IsSend T → IsSync (Mutex.the_row T)
 mutex_sync T s = search crosses
 
+-- an inbox may cross threads
 tasks_send : IsSend Inbox.the_row
 tasks_send = search (crosses, knot.crosses, sendable) depth 60 fits 20000
 
--- what all callers share beside the locks of the parts
+-- what all callers share beside the locks of the parts may be shared
 recorder_sync : (Q N R : RattleType) (n : Naming.Ghosts N.Denot) (m : Counting.Ghosts N.Denot)
     (g : Queue.Ghosts Q.Denot R.Denot) (h : Discipline.Ghosts R.Denot)
     → IsSync (Recorder.the_row Q N R n m g h)

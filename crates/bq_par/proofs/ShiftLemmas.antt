@@ -9,11 +9,11 @@ use Rattle.bq_shared.specs.declared.record.Record.{Record}
 use Rattle.bq_par.specs.Shifts.{IsShift, IsShiftStart, IsTickAt, TicksMore}
 use Rattle.bq_par.specs.Ticks.{one_tick, one_if_tick}
 
--- no tick yet
+-- no receipts more are no ticks more
 pub none_more : (p : ℕ) (l : List (Receipt Record)) → TicksMore p 0 l l
 none_more p l = record { beats = []; behind = sym (append-nil l); many = refl; each = tt }
 
--- one more
+-- n ticks and then one more are n + 1 ticks
 pub one_more : (p n : ℕ) (before after : List (Receipt Record)) (x : Receipt Record)
     → IsTickAt p x → TicksMore p n before after → TicksMore p (n + 1) before (after ++ x ∷ [])
 one_more p n before after x tick t = record {
@@ -30,12 +30,12 @@ pub woken_there : (p : ℕ) (G : ℕ → Type 0) (o : Option (Receipt Record))
 woken_there p G None woken = tt
 woken_there p G (Some r) (now, gives, is) = (now, is)
 
--- the receipts of the beginning, one after another
+-- the receipts of the beginning, taken one after another, are these in order
 pub start_whole : (l0 l1 l2 l3 o : List (Receipt Record)) (a b d : Receipt Record)
     → l0 ≡ [] → l1 ≡ l0 ++ a ∷ [] → l2 ≡ (l1 ++ b ∷ []) ++ o → l3 ≡ l2 ++ d ∷ [] → l3 ≡ a ∷ b ∷ (o ++ d ∷ [])
 start_whole l0 l1 l2 l3 o a b d e0 e1 e2 e3 = rw (e3, e2, e1, e0) refl
 
--- what the receipts of the beginning are for
+-- the receipts of an admission, a wake's begin, its end if there is one, and a drain begin a shift
 pub start_is : (p : ℕ) (l0 l1 l2 l3 : List (Receipt Record)) (a b d : Receipt Record) (o : Option (Receipt Record))
     → l0 ≡ [] → l1 ≡ l0 ++ a ∷ [] → l2 ≡ (l1 ++ b ∷ []) ++ option_to_list o → l3 ≡ l2 ++ d ∷ []
     → a.entry.event ≡ Admit p (pos 0) (2 ^ 64 - 1) 3000000 → b.entry.event ≡ BeginWake p p
@@ -59,11 +59,13 @@ start_is p l0 l1 l2 l3 a b d o e0 e1 e2 e3 admitted begun woken ended drained = 
 abbrev pub ticks_of : List (Receipt Record) → ℕ
 ticks_of l = total (λ (x : Receipt Record). one_tick x.entry) l
 
+-- the ticks of two lists of receipts, one behind the other, add up
 ticks_append : (xs ys : List (Receipt Record)) → ticks_of (xs ++ ys) ≡ ticks_of xs + ticks_of ys
 ticks_append [] ys = omega arith
 ticks_append (x ∷ xs) ys =
     ap (λ n. one_tick x.entry + n) (ticks_append xs ys) ∙ sym (add_assoc (one_tick x.entry) (ticks_of xs) (ticks_of ys))
 
+-- receipts that are all for ticks have as many ticks as there are receipts
 beats_count : (p : ℕ) (l : List (Receipt Record)) → Each (IsTickAt p) l → ticks_of l ≡ length l
 beats_count p [] each = refl
 beats_count p (x ∷ xs) ((now, tick), more) =
@@ -71,11 +73,13 @@ beats_count p (x ∷ xs) ((now, tick), more) =
     let rest = beats_count p xs more in
     omega (arith, here, rest)
 
+-- the end of a wake, if there is one, is no tick
 end_counts : (p : ℕ) (end : Option (Receipt Record)) → IfSome end (λ (r : Receipt Record). (now : ℕ) × (r.entry.event ≡ EndWake p now))
     → ticks_of (option_to_list end) ≡ 0
 end_counts p None woken = refl
 end_counts p (Some r) (now, is) = let here : one_tick r.entry ≡ 0 = ap one_if_tick is in omega (arith, here)
 
+-- the beginning of a shift has no ticks
 start_counts : (p : ℕ) (l : List (Receipt Record)) → IsShiftStart p l → ticks_of l ≡ 0
 start_counts p l s =
     let a : one_tick s.admit.entry ≡ 0 = ap one_if_tick s.admitted in

@@ -26,6 +26,7 @@ parts_back [] = refl
 parts_back (p ∷ ps) = ap (λ xs. p ∷ xs) (parts_back ps)
 
 module _ {A B : Type 0} (f : A → WorldPart) (h : B → WorldPart) where
+  -- the items of some parts and then of others are the items of all of them in this order
   items_two : (xs : List A) (ys : List B)
       → let l : List ItemOf = map (λ x. part_item (f x)) xs in
       let m : List ItemOf = map (λ y. part_item (h y)) ys in l ++ m ≡ map part_item (map f xs ++ map h ys)
@@ -43,6 +44,7 @@ module _ {A B : Type 0} (f : A → WorldPart) (h : B → WorldPart) where
       ∙ ap (λ (zs : List ItemOf). part_item (lobby_part s) ∷ zs) (items_two xs ys))
 
 module _ {A : Type 0} (P : WorldPart → Type 0) (f : A → WorldPart) where
+  -- what holds of all parts holds of those in front, of those behind them, and of a list by itself:
   each_first : (xs : List A) (ps : List WorldPart) → Each P (map f xs ++ ps) → Each (λ (x : A). P (f x)) xs
   each_first [] ps h = tt
   each_first (x ∷ xs) ps h = (h.0, each_first xs ps h.1)
@@ -56,6 +58,7 @@ module _ {A : Type 0} (P : WorldPart → Type 0) (f : A → WorldPart) where
   each_only (x ∷ xs) h = (h.0, each_only xs h.1)
 
 module _ {A : Type 0} (number : A → ℕ) where
+  -- the place of a processor, or of an inbox, is counted as often as its number is:
   cpus_counted : (s : ℕ) (p : Processor) (state : A → Processor) (xs : List A)
       → count (same_part (part.Cpu s p)) (map (λ (x : A). cpu_part (number x) (state x)) xs) ≡ count (λ (x : A). eqb s (number x)) xs
   cpus_counted s p state [] = refl
@@ -68,6 +71,7 @@ module _ {A : Type 0} (number : A → ℕ) where
 
 module _ {A B : Type 0} (s : List LobbyEntry) (xs : List A) (ys : List B) (at : A → ℕ) (state : A → Processor)
     (place : B → ℕ) (tasks : B → List Task) where
+  -- the part of a processor with its number, and that of an inbox with its number:
   abbrev as_cpu : A → WorldPart
   as_cpu x = cpu_part (at x) (state x)
 

@@ -35,6 +35,7 @@ through_calling account b (c ∷ cs) d (m, step, rest) =
     ∙ ap (λ (x : List CounterCall). record { seats = (account b).seats; calls = x }) (append_assoc (account b).calls (c ∷ []) cs))
 
 module _ {R : Type 0} (calls : R → List CounterCall) where
+  -- an account that is ahead by some calls has the calls of its receipts, and then these
   ahead_is : (xs : List (Receipt R)) (made : List CounterCall)
       → ahead calls xs made ≡ record { seats = 1; calls = calls_of calls xs ++ made }
   ahead_is xs [] = ap (λ (cs : List CounterCall). record { seats = 1; calls = cs }) (sym (append-nil (calls_of calls xs)))
@@ -49,6 +50,7 @@ module _ {R : Type 0} (calls : R → List CounterCall) where
       through_calling account b made d t
       ∙ (ap (λ (a : Account). record { seats = a.seats; calls = a.calls ++ made }) e ∙ sym (ahead_is xs made))
 
+  -- one more receipt brings its calls behind those of the others
   calls_more : (l : List (Receipt R)) (x : Receipt R) → calls_of calls (l ++ x ∷ []) ≡ calls_of calls l ++ calls x.entry
   calls_more [] x = append-nil (calls x.entry)
   calls_more (y ∷ ys) x =
@@ -65,6 +67,7 @@ module _ {R : Type 0} (calls : R → List CounterCall) where
       ∙ (ap (λ (cs : List CounterCall). record { seats = 1; calls = cs }) (sym (calls_more l x))
       ∙ ap (λ (k : List (Receipt R)). account_of calls k) (sym e))))
 
+  -- one more caller brings the calls of its receipts behind those of the others
   calls_by_more : (cs : List (ℕ × List (Receipt R))) (c : ℕ × List (Receipt R))
       → calls_by calls (cs ++ c ∷ []) ≡ calls_by calls cs ++ calls_of calls c.1
   calls_by_more [] c = append-nil (calls_of calls c.1)
@@ -72,7 +75,7 @@ module _ {R : Type 0} (calls : R → List CounterCall) where
       ap (λ (y : List CounterCall). calls_of calls x.1 ++ y) (calls_by_more xs c)
       ∙ sym (append_assoc (calls_of calls x.1) (calls_by calls xs) (calls_of calls c.1))
 
-  -- the account of one more seat
+  -- the account of some callers, joined with that of one more seat, is the account of all of them
   pub accounts_more : (cs : List (ℕ × List (Receipt R))) (c : ℕ × List (Receipt R)) (a b : Account)
       → a ≡ account_by calls cs → b ≡ account_of calls c.1
       → joined_accounts a b ≡ account_by calls (cs ++ c ∷ [])
@@ -83,10 +86,12 @@ module _ {R : Type 0} (calls : R → List CounterCall) where
       ∙ (ap (λ (n : ℕ). record { seats = n; calls = calls_by calls cs ++ calls_of calls c.1 }) long
       ∙ ap (λ (y : List CounterCall). record { seats = length (cs ++ c ∷ []); calls = y }) (sym (calls_by_more cs c))))
 
+  -- what the calls of a seat add to a counter is the sum over its receipts
   sum_list : (i : ℕ) (l : List (Receipt R)) → sum_of i (calls_of calls l) ≡ total (λ (x : Receipt R). sum_of i (calls x.entry)) l
   sum_list i [] = refl
   sum_list i (x ∷ xs) = let h = sum_list i xs in let e = sum-append i (calls x.entry) (calls_of calls xs) in omega (arith, h, e)
 
+  -- what the calls of all callers add to a counter is the sum over their receipts, caller by caller
   sum_callers : (i : ℕ) (callers : List (ℕ × List (Receipt R)))
       → sum_of i (calls_by calls callers)
       ≡ total (λ (c : ℕ × List (Receipt R)). total (λ (x : Receipt R). sum_of i (calls x.entry)) c.1) callers
@@ -95,6 +100,7 @@ module _ {R : Type 0} (calls : R → List CounterCall) where
       let h = sum_callers i cs in
       let e = sum-append i (calls_of calls c.1) (calls_by calls cs) in let k = sum_list i c.1 in omega (arith, h, e, k)
 
+  -- what the calls in records add to a counter is the sum over the receipts of these records
   sum_reported : (i n : ℕ) (log : List R)
       → sum_of i (calls_in calls log) ≡ total (λ (x : Receipt R). sum_of i (calls x.entry)) (receipts_from n log)
   sum_reported i n [] = refl

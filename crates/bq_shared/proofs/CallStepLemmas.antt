@@ -39,12 +39,12 @@ use Rattle.bq_shared.proofs.ShapeLemmas.{MayCommitHere, moves_none, moves_lobby,
 abbrev pub ones : ℕ → ℕ → ℕ
 ones i mask = 1
 
--- the length is a tally
+-- the length of a list of tasks is a tally in which each counts once
 pub length_is : (xs : List Task) → length xs ≡ tally ones xs
 length_is [] = refl
 length_is (x ∷ xs) = omega (arith, length_is xs)
 
--- it is decided who runs: the size stays
+-- a decision about who runs changes no size
 decided_size : (s : PolicySemantics) (p : Processor) (settled : SettledChoice) → size_of (decided_by s p settled) ≡ size_of p
 decided_size s p settled =
     omega (
@@ -59,13 +59,14 @@ pub time_size : (d : Discipline) (now : ℕ) (p : Processor) → size_of (after_
 time_size d now p =
     omega (arith, length_is (present_at (charge d p.running now)), length_is (present_at p.running), tally-charge ones d p.running now)
 
+-- the beginning of a wake changes no size
 begin_size : (id : ℕ) (loads : List ℕ) (p : Processor) (l : List LobbyEntry) (r : Result Reply Refusal) (q : Processor)
     (m : List LobbyEntry)
     → BeginsWake id loads p l r q m → size_of q ≡ size_of p
 begin_size id loads p l (Ok r) q m b = ap size_of b.in_hand
 begin_size id loads p l (Err e) q m b = ap size_of b.1
 
--- a task has left the processor
+-- where a processor has one task fewer, the journal keeps one less for it
 pub kept_less : (w : World) (c : ℕ) (p q : Processor) (k : JournalState)
     → length w.inboxes ≡ length w.processors → journal_state_of w ≡ k → c < count_in w → processor_at w c ≡ p
     → size_of q + 1 ≡ size_of p
@@ -78,7 +79,7 @@ kept_less w c p q k even kw there at e =
     (loads_set w.processors w.inboxes c q even ∙ ap (λ (x : ℕ). set (loads_of w.processors w.inboxes) c x) is)
     ∙ ap (one_less c) kw
 
--- a task has come to the processor
+-- where a processor has one task more, the journal keeps one more for it
 pub kept_more : (w : World) (c : ℕ) (p q : Processor) (k : JournalState)
     → length w.inboxes ≡ length w.processors → journal_state_of w ≡ k → c < count_in w → processor_at w c ≡ p
     → size_of q ≡ size_of p + 1 → load_of p (inbox w c) ≤ 1024
@@ -128,6 +129,7 @@ module _ (d : Discipline) (n : ℕ) where
         kept_same w c p q k kw at size,
       ))
 
+  -- after a drain the processor has the load that it had together with its inbox
   drain_load : (c now : ℕ) (p q : Processor) (xs : List Task) (calls : List CounterCall) (r : Reply)
       → Drains (by_programs d) c now p xs calls r q → load_of q [] ≡ load_of p xs
   drain_load c now p q xs calls r t =
@@ -160,6 +162,7 @@ module _ (d : Discipline) (n : ℕ) where
             ∙ kw,
       ))
 
+  -- a block that is not refused leaves the processor one task fewer
   block_load : (c now : ℕ) (p q : Processor) (l m : List LobbyEntry) (r : Reply) → Blocks d c now p l (Ok r) q m → size_of q + 1 ≡ size_of p
   block_load c now p q l m r b =
       let a = after_time d now p in
@@ -172,6 +175,7 @@ module _ (d : Discipline) (n : ℕ) where
         tally-after_leaving ones d a.running b.0 b.1.0,
       )
 
+  -- after a block the journal keeps the state of the new world, whether the block is refused or not
   block_kept : (w : World) (c now : ℕ) (p q : Processor) (l m : List LobbyEntry) (k : JournalState) (r : Result Reply Refusal)
       → IsSound n w → journal_state_of w ≡ k → c < count_in w → processor_at w c ≡ p → Blocks d c now p l r q m
       → journal_state_of (with_processor w c q) ≡ kept_by_block c r k
@@ -210,6 +214,7 @@ module _ (d : Discipline) (n : ℕ) where
         kept_same w c p q k kw at (begin_size id k.loads p l r q m b),
       ))
 
+  -- the end of a wake changes no size of the processor that places the task
   place_size : (c now : ℕ) (p q : Processor) (calls : List CounterCall) (x : Placement)
       → Places (by_programs d) n c now p calls (Some x) q → size_of q ≡ size_of p
   place_size c now p q calls x k = ap size_of k.here ∙ time_size d now p
@@ -258,6 +263,7 @@ module _ (d : Discipline) (n : ℕ) where
       moves_none d n g k (record k { drawn = g }) (record { event = Draw; reply = Ok (Drawn g); calls = [] })
       (λ w s kw. ((rw (← kw) (refl, (refl, refl, refl)), refl, tt), ap (λ (x : JournalState). record x { drawn = g }) kw))
 
+  -- an installation changes no size
   install_size : (h : Hook) (drawn : ℕ) (p : Processor) (new : Attached) (r : Result Reply Refusal) (q : Processor)
       → Installs h drawn p new r q → size_of q ≡ size_of p
   install_size h drawn p new (Ok r) q i = ap size_of i.2

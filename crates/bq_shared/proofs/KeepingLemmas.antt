@@ -18,6 +18,7 @@ pub sum-append : (i : ℕ) (v w : List CounterCall) → sum_of i (v ++ w) ≡ su
 sum-append i [] w = omega arith
 sum-append i (c ∷ cs) w = let h = sum-append i cs w in omega arith
 
+-- how many seats an account has, and what its calls add to a counter:
 abbrev seats_of : Account → ℕ
 seats_of a = a.seats
 
@@ -27,6 +28,7 @@ sums_of i a = sum_of i a.calls
 -- a step on one word by one account
 module _ (seats : ℕ) (words : List ℕ) (accounts : List Account) (id : ℕ) (v w : Account) (i k x : ℕ)
     (rule : AreSums seats words accounts) (at : get_elem? accounts id ≡ some v) (low : i < 64) where
+  -- after such a step each word is the sum of what all accounts add to its counter, with the new account
   word_at : (j : ℕ) (b : Bool) → j < 64 → x ≡ (slice_index words i + k) % 2 ^ 64
       → ((j : ℕ) → j ≡ i → sum_of j w.calls ≡ sum_of j v.calls + k) → ((j : ℕ) → j ≢ i → sum_of j w.calls ≡ sum_of j v.calls)
       → ((b ≡ true) × (j ≡ i)) ⊎ ((b ≡ false) × (j ≢ i))
@@ -59,6 +61,7 @@ module _ (seats : ℕ) (words : List ℕ) (accounts : List Account) (id : ℕ) (
     sums = λ j lt. word_at j _ lt is here there (eqb_tells j i);
   }
 
+-- an add of k adds k to its own counter and nothing to any other, by cases:
 added_same : (i j k x : ℕ) (b : Bool) → ((b ≡ true) × (i ≡ j)) ⊎ ((b ≡ false) × (i ≢ j)) → j ≡ i → cond {A = ℕ} b k 0 ≡ k
 added_same i j k x b (inl (e, same)) is = rw e refl
 added_same i j k x b (inr (e, other)) is = absurd (other (sym is))
@@ -67,7 +70,7 @@ added_other : (i j k x : ℕ) (b : Bool) → ((b ≡ true) × (i ≡ j)) ⊎ ((b
 added_other i j k x b (inl (e, same)) is = absurd (is (sym same))
 added_other i j k x b (inr (e, other)) is = rw e refl
 
--- an add
+-- an add to a word, and to an account with a seat, keeps the sums
 pub sums_after_add : (seats : ℕ) (words : List ℕ) (accounts : List Account) (id i k : ℕ) (v : Account)
     → AreSums seats words accounts → get_elem? accounts id ≡ some v → i < 64 → 1 ≤ v.seats
     → AreSums seats (slice_set words i ((slice_index words i + k) % 2 ^ 64))
@@ -83,7 +86,7 @@ sums_after_add seats words accounts id i k v rule at low some_seat =
     let none : counter_added j (Add i k (slice_index words i)) ≡ 0 = added_other i j k 0 _ (eqb_tells i j) other in
     omega (arith, h, none))
 
--- a read
+-- a read of a word, which an account with a seat gets, keeps the sums
 pub sums_after_read : (seats : ℕ) (words : List ℕ) (accounts : List Account) (id i : ℕ) (v : Account)
     → AreSums seats words accounts → get_elem? accounts id ≡ some v → i < 64 → 1 ≤ v.seats → slice_index words i < 2 ^ 64
     → AreSums seats (slice_set words i (slice_index words i)) (slice_set accounts id (account_called v (Read i (slice_index words i))))
@@ -93,7 +96,7 @@ sums_after_read seats words accounts id i v rule at low some_seat fits =
     (λ j same. let h = sum-append j v.calls (Read i (slice_index words i) ∷ []) in omega (arith, h))
     (λ j other. let h = sum-append j v.calls (Read i (slice_index words i) ∷ []) in omega (arith, h))
 
--- a look
+-- a look at a word, which no account gets, keeps the sums
 pub sums_after_look : (seats : ℕ) (words : List ℕ) (accounts : List Account) (id i : ℕ) (v : Account)
     → AreSums seats words accounts → get_elem? accounts id ≡ some v → i < 64 → slice_index words i < 2 ^ 64
     → AreSums seats (slice_set words i (slice_index words i)) (slice_set accounts id v)
@@ -103,7 +106,7 @@ sums_after_look seats words accounts id i v rule at low fits =
 
 module _ (seats : ℕ) (words : List ℕ) (accounts : List Account) (id : ℕ) (v : Account) (rule : AreSums seats words accounts)
     (at : get_elem? accounts id ≡ some v) where
-  -- the account is cut in two
+  -- an account that is cut in two keeps the sums
   pub cuts : (left right : Account) → left.seats + right.seats ≡ v.seats
       → ((i : ℕ) → sum_of i left.calls + sum_of i right.calls ≡ sum_of i v.calls) → (left.seats ≡ 0 → left.calls ≡ [])
       → (right.seats ≡ 0 → right.calls ≡ [])
@@ -130,15 +133,15 @@ module _ (seats : ℕ) (words : List ℕ) (accounts : List Account) (id : ℕ) (
         rw same (rule.sums i lt);
   }
 
-  -- one seat gets an account
+  -- so does one seat that leaves an account without calls and gets its own
   pub parts : 1 ≤ v.seats → v.calls ≡ [] → AreSums seats words (slice_set accounts id (without_one v) ++ opened 1 ∷ [])
   parts some_seat none = cuts (without_one v) (opened 1) (omega arith) (λ i. omega arith) (λ z. none) (λ z. refl)
 
-  -- the account goes to another seat of the table
+  -- so does an account that goes to another seat of the table
   pub takes : AreSums seats words (slice_set accounts id spent ++ v ∷ [])
   takes = cuts spent v (omega arith) (λ i. omega arith) (λ z. refl) (rule.blank id v at)
 
-  -- two accounts become one
+  -- so do two accounts that become one
   pub joins : (other : ℕ) (w : Account) → ¬ (other ≡ id)
       → get_elem? (slice_set accounts id (joined_accounts v w)) other ≡ some w
       → AreSums seats words (slice_set (slice_set accounts id (joined_accounts v w)) other spent)
@@ -170,7 +173,7 @@ module _ (seats : ℕ) (words : List ℕ) (accounts : List Account) (id : ℕ) (
             rw same (rule.sums i lt);
       }
 
--- one more account, of no seat
+-- one more account, of no seat, keeps the sums
 pub sums_with_one_more : (seats : ℕ) (words : List ℕ) (accounts : List Account)
     → AreSums seats words accounts → AreSums seats words (accounts ++ spent ∷ [])
 sums_with_one_more seats words accounts rule = record {
@@ -186,7 +189,7 @@ sums_with_one_more seats words accounts rule = record {
       rw same (rule.sums i lt);
 }
 
--- accounts of no seat add nothing
+-- where no account has a seat, nothing was added to any counter
 total_none : (i : ℕ) (accounts : List Account)
     → ((by : ℕ) (a : Account) → get_elem? accounts by ≡ some a → a.seats ≡ 0 → a.calls ≡ []) → total seats_of accounts ≡ 0
     → total (sums_of i) accounts ≡ 0
@@ -214,6 +217,7 @@ total_alone i (a ∷ rest) (suc id) v blank at e =
     let h = total_alone i rest id v (λ by b. blank (suc by) b) at (omega (arith, e, most)) in
     omega (arith, h, none)
 
+-- n words, each of which is 0:
 abbrev zeros : ℕ → List ℕ
 zeros n = replicate n 0
 
@@ -222,7 +226,7 @@ zero_at zero i = refl
 zero_at (suc n) zero = refl
 zero_at (suc n) (suc i) = zero_at n i
 
--- at the start
+-- at the start all words are 0, and one account has all seats and no calls
 pub sums_at_start : (seats : ℕ) → AreSums seats (zeros 64) (opened seats ∷ [])
 sums_at_start seats = record {
   many = refl;
@@ -241,6 +245,7 @@ index_at [] i x e = absurd (some-ne-none x (sym e))
 index_at (w ∷ ws) zero x e = some-injective w x e
 index_at (w ∷ ws) (suc i) x e = index_at ws i x e
 
+-- once item i is written at its place, each word up to it is the item at its place
 more_at : (words items : List ℕ) (i x k : ℕ) (b : Bool) → i < length words
     → ((k : ℕ) → k < i → get_elem? items k ≡ some (slice_index words k)) → get_elem? items i ≡ some x → k < i + 1
     → ((b ≡ true) × (k ≡ i)) ⊎ ((b ≡ false) × (k ≢ i))
@@ -248,7 +253,7 @@ more_at : (words items : List ℕ) (i x k : ℕ) (b : Bool) → i < length words
 more_at words items i x k b there before at lt (inl (e, same)) = rw (same, get_or-set_same words i x 0 there) at
 more_at words items i x k b there before at lt (inr (e, other)) = rw (get_or-set_other words i k x 0 other) (before k (omega arith))
 
--- one more word that was read
+-- one more word that was read is at its place, and so are those before it
 pub one_more : (words items : List ℕ) (i x : ℕ) → i < length words
     → ((k : ℕ) → k < i → get_elem? items k ≡ some (slice_index words k)) → get_elem? items i ≡ some x → (k : ℕ) → k < i + 1
     → get_elem? items k ≡ some (slice_index (slice_set words i x) k)

@@ -36,6 +36,7 @@ module _ (d : Discipline) (n c : ℕ) (p : Processor) where
       let p' = (processor_at k.0 c).running in
       omega (arith, none_beyond_at k.0 c id s.lobby s.orderly h, count_of-append id (present_at p') (inbox k.0 c)))
 
+  -- if each task that may be in the hand has a processor that it may use, so has the one that is there, if any
   usable_by_case : (o : Option Carried) → ((x : Carried) → o ≡ Some x → HasPlace n x.task) → IfSome o (λ x. HasPlace n x.task)
   usable_by_case None h = tt
   usable_by_case (Some x) h = h x refl

@@ -15,11 +15,12 @@ use Rattle.bq_shared.specs.Opened.{ItemOf, cpu_items, inbox_items}
 use Rattle.bq_shared.specs.declared.law.WorldPart.{WorldPart}
 use Rattle.bq_shared.specs.declared.law.WorldPart.TheVariants as part
 
--- what is counted at the numbers from c on, n of them, where each adds one just at its own number
+-- how often d is among the n numbers from c on
 abbrev tally : ℕ → ℕ → ℕ → ℕ
 tally d c zero = 0
 tally d c (suc n) = cond {A = ℕ} (eqb d c) 1 0 + tally d (c + 1) n
 
+-- a number below c is not among the numbers from c on
 tally_below : (d c n : ℕ) → d < c → tally d c n ≡ 0
 tally_below d c zero b = refl
 tally_below d c (suc n) b =
@@ -27,6 +28,7 @@ tally_below d c (suc n) b =
     let e : cond {A = ℕ} (eqb d c) 1 0 ≡ 0 = ap (λ (x : Bool). cond {A = ℕ} x 1 0) (ne_eqb d c (λ (i : d ≡ c). omega arith)) in
     omega arith
 
+-- each number is at most once among them
 tally_once : (d c n : ℕ) → tally d c n ≤ 1
 tally_once d c zero = omega arith
 tally_once d c (suc n) =
@@ -40,6 +42,7 @@ tally_once d c (suc n) =
     let none : cond {A = ℕ} (eqb d c) 1 0 ≡ 0 = ap (λ (x : Bool). cond {A = ℕ} x 1 0) (ne_eqb d c i) in
     omega arith)
 
+-- a processor, or an inbox, is among those from c on as often as its number is:
 in_cpus : (d c n : ℕ) (r : _) → count (same_part (part.Cpu d r)) (cpus_from c n) ≡ tally d c n
 in_cpus d c zero r = refl
 in_cpus d c (suc n) r = ap (λ (k : ℕ). cond {A = ℕ} (eqb d c) 1 0 + k) (in_cpus d (c + 1) n r)
@@ -48,6 +51,7 @@ in_inboxes : (d c n : ℕ) (j : _) → count (same_part (part.Inbox d j)) (inbox
 in_inboxes d c zero j = refl
 in_inboxes d c (suc n) j = ap (λ (k : ℕ). cond {A = ℕ} (eqb d c) 1 0 + k) (in_inboxes d (c + 1) n j)
 
+-- no processor is among the inboxes, and no inbox among the processors:
 none_in_inboxes : (d c n : ℕ) (r : _) → count (same_part (part.Cpu d r)) (inboxes_from c n) ≡ 0
 none_in_inboxes d c zero r = refl
 none_in_inboxes d c (suc n) r = let h = none_in_inboxes d (c + 1) n r in omega arith
@@ -56,6 +60,7 @@ none_in_cpus : (d c n : ℕ) (j : _) → count (same_part (part.Inbox d j)) (cpu
 none_in_cpus d c zero j = refl
 none_in_cpus d c (suc n) j = let h = none_in_cpus d (c + 1) n j in omega arith
 
+-- no lobby is among the processors and the inboxes
 no_lobby : (l : _) (c n : ℕ) → count (same_part (part.Lobby l)) (cpus_from c n) + count (same_part (part.Lobby l)) (inboxes_from c n) ≡ 0
 no_lobby l c zero = refl
 no_lobby l c (suc n) = let h = no_lobby l (c + 1) n in omega arith
@@ -79,6 +84,7 @@ each_part_once n (part.Lobby l) =
     let b = no_lobby l 0 n in
     omega arith
 
+-- the opening world has each of the first processors, and each of the first inboxes:
 cpus_there : (all c n : ℕ) → c + n ≡ all → Each (HasPart (opening_world all)) (cpus_from c n)
 cpus_there all c zero e = tt
 cpus_there all c (suc n) e = ((rw length-replicate (omega arith), same_everywhere new_processor all c), cpus_there all (c + 1) n (omega arith))
@@ -105,12 +111,13 @@ pub inbox_turn : (i n : ℕ) (rest : List ItemOf) → i < n
     → inbox_items i (n - i) ++ rest ≡ part_item (part.Inbox i []) ∷ (inbox_items (i + 1) (n - (i + 1)) ++ rest)
 inbox_turn i n rest b = ap (λ (k : ℕ). inbox_items i k ++ rest) (left_over i n b)
 
--- the items of the parts, given out in this order
+-- the items of the first processors come first, then those of the other parts
 cpus_first : (c n : ℕ) (ps : List WorldPart) (rest : List ItemOf)
     → map part_item (cpus_from c n ++ ps) ++ rest ≡ cpu_items c n ++ (map part_item ps ++ rest)
 cpus_first c zero ps rest = refl
 cpus_first c (suc n) ps rest = ap (λ ys. part_item (part.Cpu c new_processor) ∷ ys) (cpus_first (c + 1) n ps rest)
 
+-- the items of the first inboxes are those that are given out, whatever comes behind them
 inboxes_next : (c n : ℕ) (rest : List ItemOf) → map part_item (inboxes_from c n) ++ rest ≡ inbox_items c n ++ rest
 inboxes_next c zero rest = refl
 inboxes_next c (suc n) rest = ap (λ ys. part_item (part.Inbox c []) ∷ ys) (inboxes_next (c + 1) n rest)

@@ -67,6 +67,7 @@ source_size d o task =
       same,
     )
 
+-- if there is a task that may use the processor, one task is taken
 one_by_case : (processor mark : ℕ) (o : Option Task) → option_map_or (can_use processor) o false ≡ true
     → length (option_to_list (option_map (left_at mark) o)) ≡ 1
 one_by_case processor mark None h = absurd (let no : ⊥ = cc in no)
@@ -90,11 +91,12 @@ chosen_there d processor from now id p o settled once h e =
     (or_nobody (own_pull processor c s)) settled (own_pull_permitted processor c s once) h in
     taken_one processor id s.running (may_pull_names processor s.running.queue settled.choice id may e)
 
--- a processor beside one that was written
+-- a processor is as before where another one was replaced
 beside : (w : World) (c b : ℕ) (q o : Processor) → b ≢ c → processor_at w b ≡ o → processor_at (with_processor w c q) b ≡ o
 beside w c b q o apart at = get_or-set_other w.processors c b q new_processor apart ∙ at
 
 module _ (d : Discipline) (n : ℕ) where
+  -- if the puller has t tasks more, the source t fewer, and t is 1 if one is taken, else 0, the journal keeps these loads
   kept_by_task : (w : World) (c b : ℕ) (p q o r : Processor) (k : JournalState) (task run : Option ℕ) (by : By) (steps t : ℕ)
       → IsSound n w → journal_state_of w ≡ k → c < count_in w → processor_at w c ≡ p → b < count_in w → processor_at w b ≡ o → c ≢ b
       → size_of q ≡ size_of p + t → size_of r + t ≡ size_of o → ((id : ℕ) → task ≡ Some id → t ≡ 1) → (task ≡ None → t ≡ 0)
@@ -113,6 +115,7 @@ module _ (d : Discipline) (n : ℕ) where
       ∙ kept_more (with_processor w b r) c p q (one_less b k) (even ∙ sym long) first (omega (arith, here, long))
       (beside w b c r p apart at) (omega (arith, more, one)) (rw (← at) few)
 
+  -- where no task is chosen, none is taken
   none_taken : (s : Running) (task : Option ℕ) → task ≡ None → length (option_to_list (taken_from s task)) ≡ 0
   none_taken s None e = refl
   none_taken s (Some id) e = absurd (let no : ⊥ = cc in no)

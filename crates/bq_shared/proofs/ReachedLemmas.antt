@@ -1,4 +1,4 @@
--- What every world has to which a history leads.
+-- What every world has to which a history leads: its processors, inboxes and lobby, in order.
 use Rattle.std.proofs.Common.{◌≡◌, ℕ, List, [], length, ap, ◌∙◌}
 use Rattle.std.specs.Prelude.{Result, Ok, Err}
 use Rattle.std.proofs.lemmas.List.{length-set, length-replicate}
@@ -27,6 +27,7 @@ pub record IsSound (n : ℕ) (w : World) : Type 0 where
   pub lobby : length w.lobby ≡ 1024
   pub orderly : IsOrderly w
 
+-- a step leaves the lobby as long as it was, whether it is done or refused, by cases:
 lobby_after : (s : PolicySemantics) (w : World) (e : Event) (calls : List CounterCall) (r : Reply) (u : World)
     → Performs s w e calls r u → length u.lobby ≡ length w.lobby
 lobby_after s w (Admit id nice mask slice) calls r u k = ap (λ (v : World). length v.lobby) k.3 ∙ ap length k.1.2 ∙ length-set w.lobby id _
@@ -47,6 +48,7 @@ lobby_stays : (s : PolicySemantics) (w : World) (e : Event) (calls : List Counte
 lobby_stays s w e calls (Ok r) u k = lobby_after s w e calls r u k.1
 lobby_stays s w e calls (Err r) u k = ap (λ (v : World). length v.lobby) k.1
 
+-- a step that is recorded keeps a world sound, and the opening world is sound:
 step_sound : (d : Discipline) (n : ℕ) (v : World) (x : Record) (u : World) → IsSound n v → RecordStep d v x u → IsSound n u
 step_sound d n v x u s reported =
     let k = reported.0 in

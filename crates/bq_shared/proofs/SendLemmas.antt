@@ -20,26 +20,27 @@ use Rattle.bq_shared.specs.contracts.record.Record as Record
 use Rattle.bq_shared.specs.contracts.calls.Calls as Calls
 use Rattle.bq_shared.specs.contracts.law.JournalState as JournalState
 
--- a processor with its number
+-- a processor with its number may cross threads, where its queue may
 pub numbered_send : (Q R : RattleType) (g : Queue.Ghosts Q.Denot R.Denot) (h : Discipline.Ghosts R.Denot)
     → IsSend Q → IsSend (Numbered.the_row Q R g h)
 numbered_send Q R g h s = declared_send (Numbered.the_type Q R g h) (search sendable, (cpu_send Q R g h s, (scratch.the_send, tt)))
 
--- an inbox with its number
+-- an inbox with its number may
 pub inbox_send : IsSend NumberedInbox.the_row
 inbox_send = search (crosses, knot.crosses, sendable) depth 60 fits 20000
 
--- the lobby
+-- the lobby may
 pub lobby_send : IsSend OneLobby.the_row
 lobby_send = search (crosses, knot.crosses, sendable) depth 60 fits 20000
 
+-- the calls of counters may
 calls_send : IsSend Calls.the_row
 calls_send = search (crosses, list.the_send, call.the_send, sendable) depth 40
 
--- a record
+-- a record may
 pub record_send : IsSend Record.the_row
 record_send = declared_send Record.the_type (event.the_send, (answer.the_send, (calls_send, tt)))
 
--- what the journal keeps
+-- what the journal keeps may
 pub kept_send : IsSend JournalState.the_row
 kept_send = search (loads.the_send, sendable) depth 20

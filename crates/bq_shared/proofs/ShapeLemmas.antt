@@ -15,11 +15,13 @@ use Rattle.bq_shared.specs.declared.record.Record.{Record}
 use Rattle.bq_shared.specs.Parts.{RecordStep, cpu_part, inbox_part, lobby_part, same_part, HasPart, journal_state_of}
 use Rattle.bq_shared.proofs.ReachedLemmas.{IsSound, reached_sound}
 
+-- a part is at the same place as itself
 same_self : (x : WorldPart) → same_part x x ≡ true
 same_self (part.Cpu c p) = eq-eqb c c refl
 same_self (part.Inbox c i) = eq-eqb c c refl
 same_self (part.Lobby l) = refl
 
+-- a number that is not counted as c is not c
 apart : (d c : ℕ) → cond {A = ℕ} (eqb d c) 1 0 ≡ 0 → d ≢ c
 apart d c none e = let one : cond {A = ℕ} (eqb d c) 1 0 ≡ 1 = ap (λ (b : Bool). cond {A = ℕ} b 1 0) (eq-eqb d c e) in omega arith
 
@@ -39,7 +41,7 @@ module _ (d : Discipline) (n : ℕ) where
   abbrev pub MayCommitHere : JournalState → List WorldPart → Record → JournalState → List WorldPart → Type 0
   MayCommitHere = MayCommit (RecordStep d) (opening_world n) journal_state_of same_part HasPart
 
-  -- no part
+  -- a step that moves no part may be committed, where it is a step of each world that can be reached
   pub moves_none : (g : ℕ) (k m : JournalState) (e : Record)
       → ((w : World) → IsSound n w → journal_state_of w ≡ k → RecordStep d w e (record w { drawn = g }) × (journal_state_of (record w { drawn = g }) ≡ m))
       → MayCommitHere k [] e m []
@@ -56,7 +58,7 @@ module _ (d : Discipline) (n : ℕ) where
       others w (part.Inbox b j) none f = f
       others w (part.Lobby o) none f = f
 
-  -- a step that moves only the lobby
+  -- so may a step that moves only the lobby
   pub moves_lobby : (l m : List LobbyEntry) (k : JournalState) (e : Record)
       → ((w : World) → IsSound n w → w.lobby ≡ l → RecordStep d w e (record w { lobby = m }))
       → MayCommitHere k (lobby_part l ∷ []) e k (lobby_part m ∷ [])
@@ -79,7 +81,7 @@ module _ (d : Discipline) (n : ℕ) where
       others w (part.Inbox b j) none f = f
       others w (part.Lobby o) none f = absurd (omega arith)
 
-  -- one processor
+  -- so may a step that moves only one processor
   pub moves_cpu : (c : ℕ) (p q : Processor) (k m : JournalState) (e : Record)
       → ((w : World) → IsSound n w → journal_state_of w ≡ k → c < count_in w → processor_at w c ≡ p →
       RecordStep d w e (with_processor w c q) × (journal_state_of (with_processor w c q) ≡ m))
@@ -102,7 +104,7 @@ module _ (d : Discipline) (n : ℕ) where
       others w (part.Inbox b j) none f = f
       others w (part.Lobby o) none f = f
 
-  -- one processor and the lobby
+  -- so may a step that moves one processor and the lobby
   pub moves_cpu_lobby : (c : ℕ) (p q : Processor) (l o : List LobbyEntry) (k m : JournalState) (e : Record)
       → ((w : World) → IsSound n w → journal_state_of w ≡ k → c < count_in w → processor_at w c ≡ p → w.lobby ≡ l →
       RecordStep d w e (record (with_processor w c q) { lobby = o }) × (journal_state_of (with_processor w c q) ≡ m))
@@ -129,7 +131,7 @@ module _ (d : Discipline) (n : ℕ) where
       others w (part.Inbox b j) none f = f
       others w (part.Lobby z) none f = absurd (omega arith)
 
-  -- one processor and an inbox
+  -- so may a step that moves one processor and an inbox
   pub moves_cpu_inbox : (c b : ℕ) (p q : Processor) (xs ys : List Task) (k m : JournalState) (e : Record) →
       ((w : World) → IsSound n w → journal_state_of w ≡ k → c < count_in w → processor_at w c ≡ p → b < length w.inboxes → inbox w b ≡ xs →
       RecordStep d w e (with_inbox (with_processor w c q) b ys) × (journal_state_of (with_inbox (with_processor w c q) b ys) ≡ m)) →
@@ -161,7 +163,7 @@ module _ (d : Discipline) (n : ℕ) where
       others w (part.Inbox a j) none f = (rw length-set f.0, get_or-set_other w.inboxes b a ys [] (apart a b (omega arith)) ∙ f.1)
       others w (part.Lobby z) none f = f
 
-  -- two processors
+  -- so may a step that moves two processors
   pub moves_two_cpus : (c b : ℕ) (p q o r : Processor) (k m : JournalState) (e : Record) → c ≢ b →
       ((w : World) → IsSound n w → journal_state_of w ≡ k → c < count_in w → processor_at w c ≡ p → b < count_in w → processor_at w b ≡ o →
       RecordStep d w e (with_processor (with_processor w c q) b r) × (journal_state_of (with_processor (with_processor w c q) b r) ≡ m)) →

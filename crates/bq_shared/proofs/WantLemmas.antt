@@ -37,9 +37,11 @@ first_named : (b : Bool) (x e : Refusal) (rest : Option Refusal)
 first_named true x e rest n more h = subst (λ y. y ≢ no.OutOfMemory) (same_Some x e h) n
 first_named false x e rest n more h = more h
 
+-- lack of memory is no reason to refuse where nothing is refused
 none_named : (e : Refusal) → None ≡ Some e → e ≢ no.OutOfMemory
 none_named e h = absurd (let no : ⊥ = cc in no)
 
+-- no reason to refuse a retirement, by the entry of its task, is lack of memory
 retire_named : (s : LobbyEntry) (e : Refusal) → retire_refusal s ≡ Some e → e ≢ no.OutOfMemory
 retire_named s e h =
     first_named (is_absent s) no.NoTask e _ (λ h. cc) (first_named (is_away s) no.NotBlocked e None (λ h. cc) (none_named e))
@@ -50,6 +52,7 @@ pub retires_named : (id : ℕ) (l : List LobbyEntry) (r : Result Reply Refusal) 
 retires_named id l (Ok r) m a = tt
 retires_named id l (Err e) m a = retire_named (slice_index_or l id Absent) e a.0
 
+-- no reason to refuse the beginning of a wake, by its entry and the hand, is lack of memory
 begin_named : (s : LobbyEntry) (hand : Option Carried) (e : Refusal) → begin_refusal s hand ≡ Some e → e ≢ no.OutOfMemory
 begin_named s hand e h =
     first_named (is_absent s) no.NoTask e _ (λ h. cc)

@@ -8,21 +8,24 @@ use Rattle.bq_disc.specs.Queues.{follows, comes_after, HasDistinctIds}
 use Rattle.bq_disc.specs.Rising.{IsRising, NoneRunsBefore}
 use Rattle.bq_disc.proofs.QueueLemmas.{cond_none, find_task-none}
 
--- the tasks that are still to come
+-- the tasks of the queue that come after the last one
 abbrev pub rest_after : Option (ℕ × ℕ) → List Task → List Task
 rest_after last xs = filter (follows last) xs
 
--- before the first they all are
+-- before the first, all tasks are still to come
 pub rest_after-none : (xs : List Task) → rest_after None xs ≡ xs
 rest_after-none [] = refl
 rest_after-none (x ∷ xs) = ap (λ l. x ∷ l) (rest_after-none xs)
 
+-- a task with another id that does not run before x comes after x
 comes_later : (x y : Task) → runs_before y x ≡ false → eqb y.id x.id ≡ false → comes_after x.v x.id y ≡ true
 comes_later x y p q = grind (arith, nat_tests)
 
+-- no task comes after itself
 not_after_itself : (x : Task) → comes_after x.v x.id x ≡ false
 not_after_itself x = grind (arith, nat_tests)
 
+-- what comes after a task that comes after (v, id), or that follows the last one, does so too:
 after_along : (v id : ℕ) (x y : Task) → comes_after v id x ≡ true → comes_after x.v x.id y ≡ true → comes_after v id y ≡ true
 after_along v id x y p q = grind (arith, nat_tests)
 
@@ -36,17 +39,19 @@ rest_later : (x : Task) (xs : List Task) → NoneRunsBefore x xs → find_task x
 rest_later x [] r d = tt
 rest_later x (y ∷ xs) r d = let s = find_task-none x.id y xs d in (comes_later x y r.0 s.0, rest_later x xs r.1 s.1)
 
+-- if x follows the last one and all the others come after x, all the others are still to come
 all_follow : (last : Option (ℕ × ℕ)) (x : Task) (xs : List Task)
     → follows last x ≡ true → AllByRecursion (λ y. comes_after x.v x.id y ≡ true) xs
     → rest_after last xs ≡ xs
 all_follow last x [] h a = refl
 all_follow last x (y ∷ xs) h a = let e = follows_along last x y h a.0 in rw e (ap (λ l. y ∷ l) (all_follow last x xs h a.1))
 
+-- if all the others come after x, all of them are still to come after x
 all_later : (x : Task) (xs : List Task) → AllByRecursion (λ y. comes_after x.v x.id y ≡ true) xs → rest_after (Some (x.v, x.id)) xs ≡ xs
 all_later x [] a = refl
 all_later x (y ∷ xs) a = let e = a.0 in rw e (ap (λ l. y ∷ l) (all_later x xs a.1))
 
--- the first of the queue is the next
+-- if the first task of the queue follows the last one, it is next, and the rest comes after it
 step_at_first : (last : Option (ℕ × ℕ)) (x : Task) (xs : List Task)
     → follows last x ≡ true → AllByRecursion (λ y. comes_after x.v x.id y ≡ true) xs
     → rest_after last (x ∷ xs) ≡ x ∷ rest_after (Some (x.v, x.id)) (x ∷ xs)
@@ -61,6 +66,7 @@ skipped : (last : Option (ℕ × ℕ)) (x t : Task) (b : Bool) → follows last 
 skipped last x t true h k e = let l = follows_along last t x k e in cc
 skipped last x t false h k e = refl
 
+-- the next task that is found follows the last one
 found_follows : (last : Option (ℕ × ℕ)) (xs : List Task) (t : Task) → find (follows last) xs ≡ Some t → follows last t ≡ true
 found_follows last [] t f = cc
 found_follows last (x ∷ xs) t f = found (follows last x) refl f (found_follows last xs t)
@@ -71,7 +77,7 @@ found_follows last (x ∷ xs) t f = found (follows last x) refl f (found_follows
     found true e f more = let same : x ≡ t = cc in subst (λ (y : Task). follows last y ≡ true) same e
     found false e f more = more f
 
--- the next task, and those after it
+-- the tasks still to come are the next one and those after it
 pub rest_after-next : (last : Option (ℕ × ℕ)) (xs : List Task) (t : Task)
     → IsRising xs → HasDistinctIds xs → find (follows last) xs ≡ Some t
     → rest_after last xs ≡ t ∷ rest_after (Some (t.v, t.id)) xs

@@ -10,18 +10,18 @@ use Rattle.bq_trace.specs.Feeding.{Continues, Feeds, BreaksOff, Finishes}
 use Rattle.bq_trace.proofs.LineLemmas.{lines-with_feeds}
 use Rattle.bq_trace.specs.declared.trace_position.TracePosition.{TracePosition}
 
--- what was added to nothing is the piece
+-- what holds of the piece that was added to nothing holds of all that is there
 only : (new : List ℕ) (Holds : List ℕ → Type 0) (a : GrowsByPiece [] new Holds) → Holds new
 only new Holds a = subst Holds (sym a.added) a.holds
 
--- all of it was written
+-- if all answers to a piece were written, the piece was fed
 pub feeds_all : (s t : TracePosition) (begun piece answers : List ℕ) (old new : Option (List ℕ))
     → GrowsByPiece [] answers (λ l. Continues s begun piece l t) → Appends old new answers
     → Feeds s begun piece t old new
 feeds_all s t begun piece answers old new a written =
     record { text = answers; goes_on = only answers (λ l. Continues s begun piece l t) a; added = written }
 
--- a beginning of it was written
+-- if only a beginning of the answers to a piece was written, the session breaks off there
 pub feeds_part : (s t : TracePosition) (begun piece answers : List ℕ) (old new : Option (List ℕ))
     → GrowsByPiece [] answers (λ l. Continues s begun piece l t) → AppendsPart old new answers
     → BreaksOff s begun piece old new
@@ -37,7 +37,7 @@ feeds_part s t begun piece answers old new a part =
       part = part;
     }
 
--- nothing of it was written
+-- if nothing was written, the session breaks off before the piece
 pub feeds_none : (s : TracePosition) (begun piece : List ℕ) (w : Option (List ℕ)) → BreaksOff s begun piece w w
 feeds_none s begun piece w = record {
   answered = [];
@@ -49,7 +49,7 @@ feeds_none s begun piece w = record {
   part = ([], record { done = []; whole = refl; added = Appends-nil w });
 }
 
--- the last line's answer was written
+-- if the last line's whole answer was written, the session has finished
 pub finishes_all : (s t : TracePosition) (begun answers : List ℕ) (old new : Option (List ℕ))
     → GrowsByPiece [] answers (λ l. AnswersAll s.progress (lines begun) l t.progress) → Appends old new answers
     → Finishes s begun old new t.progress.clean
@@ -62,7 +62,7 @@ finishes_all s t begun answers old new a written =
       added = written;
     }
 
--- a beginning of it was written
+-- if only a beginning of it was written, the session breaks off there
 pub finishes_part : (s t : TracePosition) (begun answers : List ℕ) (old new : Option (List ℕ))
     → GrowsByPiece [] answers (λ l. AnswersAll s.progress (lines begun) l t.progress) → AppendsPart old new answers
     → BreaksOff s begun [] old new

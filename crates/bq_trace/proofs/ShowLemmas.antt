@@ -7,6 +7,7 @@ use Rattle.bq_disc.specs.Rising.{IsRising}
 use Rattle.bq_trace.specs.Texts.{spaced_entities, entity_text}
 use Rattle.bq_trace.proofs.QueueWalkLemmas.{rest_after, rest_after-next, rest_after-end}
 
+-- the tasks still to come are the next one and those after its v and id, as they were read
 next_at : (last : Option (ℕ × ℕ)) (queue : List Task) (t : Task) (v id : ℕ)
     → v ≡ t.v → id ≡ t.id → IsRising queue → HasDistinctIds queue → Some t ≡ find (follows last) queue
     → rest_after last queue ≡ t ∷ rest_after (Some (v, id)) queue

@@ -13,7 +13,7 @@ use Rattle.bq_trace.proofs.TakingLemmas.{TakesAll-append}
 use Rattle.bq_trace.specs.declared.progress.Progress.{Progress}
 use Rattle.bq_trace.specs.declared.trace_position.TracePosition.{TracePosition}
 
--- one story after another
+-- lines and the lines after them are reported by both stories, joined
 pub Story-append : (p m q : Progress) (xs ys : List (List ℕ)) (t u : Reported)
     → Story p xs t m → Story m ys u q → Story p (xs ++ ys) (t ++ u) q
 Story-append p m q [] ys t u h k =
@@ -51,10 +51,12 @@ SoFar-none takes s begun piece old h = record {
   taken = refl;
 }
 
+-- lines that are each one line, and one more such line, are each one line
 AllByRecursion-one : (xs : List (List ℕ)) (x : List ℕ) → AllByRecursion IsOneLine xs → IsOneLine x → AllByRecursion IsOneLine (xs ++ x ∷ [])
 AllByRecursion-one [] x h k = (k, tt)
 AllByRecursion-one (y ∷ xs) x h k = (h.0, AllByRecursion-one xs x h.1 k)
 
+-- the text of some lines and one more is the text of the former, then that line and its line feed
 with_feeds-one : (xs : List (List ℕ)) (x more : List ℕ) → with_feeds (xs ++ x ∷ []) ++ more ≡ with_feeds xs ++ (x ++ 10 ∷ more)
 with_feeds-one [] x more = append_assoc (x ++ 10 ∷ []) [] more ∙ append_assoc x (10 ∷ []) more
 with_feeds-one (y ∷ xs) x more =

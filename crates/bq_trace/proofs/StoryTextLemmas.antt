@@ -35,11 +35,13 @@ happens_text m k n event answer reported h = record {
   line = ap texts h.reports ∙ append-nil (event_line answer);
 }
 
+-- the text of what follows the begin of a wake answers it
 ends_text : (begun : Result Reply Refusal) (m k : Driven) (n c now : ℕ) (reported : Reported)
     → EndHappens begun m n c now reported k → EndsWake begun m c now (texts reported) k
 ends_text (Err refusal) m k n c now reported h = (ap texts h.0, h.1)
 ends_text (Ok reply) m k n c now reported h = (h.0, happens_text m k n (EndWake c now) h.0 reported h.1)
 
+-- the text of what comes of a wake answers the wake
 wake_text : (m k : Driven) (n c task now : ℕ) (reported : Reported)
     → WakeHappens m n c task now reported k → AnswersWake m c task now (texts reported) k
 wake_text m k n c task now reported h = record {
@@ -52,6 +54,7 @@ wake_text m k n c task now reported h = record {
   whole = ap texts h.whole ∙ texts-append h.first h.more;
 }
 
+-- the text of what comes of a load answers the load
 load_text : (m k : Driven) (n c generation : ℕ) (hook : Hook) (image : List ℕ) (reported : Reported)
     → LoadHappens m n c hook generation image reported k
     → LoadsAndAnswers m c hook generation image (texts reported) k
@@ -60,6 +63,7 @@ load_text m k n c generation hook image reported (inr (inl h)) =
     inr (inl (h.0, h.1, h.2, h.3, h.4, ap texts h.5 ∙ append-nil (load_fault_line h.1), h.6))
 load_text m k n c generation hook image reported (inr (inr h)) = inr (inr (h.0, h.1, h.2, h.3, h.4, happens_text m k n _ h.2 reported h.5))
 
+-- the texts of a line that says nothing, of a bad line, and of a line that asks for a counter:
 skips_text : (n : ℕ) (line : Option (List ℕ)) → texts (skips n line) ≡ []
 skips_text n None = refl
 skips_text n (Some line) = refl
@@ -97,6 +101,7 @@ reports_text (Running m) n line (reads.Asks (Show c)) reported q bad h = (ap tex
 reports_text (Running m) n line (reads.Asks (Counter i)) reported q bad h =
     (ap texts h.0 ∙ counter_text n i (slice_index m.counters i) line (ltb i 64), h.1, h.2)
 
+-- the text of what comes of one line, read by what is kept of it, answers the line
 line_text : (p q : Progress) (line : List ℕ) (reported : Reported) → ReportsLine p line reported q → AnswersLine p line (texts reported) q
 line_text p q line reported h = record {
   counted = h.counted;

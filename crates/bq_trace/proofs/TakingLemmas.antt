@@ -27,7 +27,7 @@ added_by bytes old new [] h = ap bytes h ∙ sym (append-nil (bytes old))
 added_by bytes old new ((n, x) ∷ more) h =
     added_by bytes h.0 new more h.2 ∙ ap (λ l. l ++ texts more) h.1 ∙ append_assoc (bytes old) (text_of n x) (texts more)
 
--- events of which more is known
+-- what was taken with less known of it was taken with all that follows from it
 pub gets_along : {S : Type 0} (takes : S → ℕ → TraceEvent → S → Type 0) (old new : S) (Less More : Reported → Type 0)
     → ((reported : Reported) → Less reported → More reported) → Gets takes old new Less
     → Gets takes old new More

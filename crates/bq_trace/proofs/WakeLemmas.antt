@@ -9,13 +9,14 @@ use Rattle.bq_trace.specs.TraceEvents.{TraceEvent, Reported, Gets}
 use Rattle.bq_trace.specs.Reporting.{Happens, EndHappens, WakeHappens}
 use Rattle.bq_trace.proofs.TakingLemmas.{TakesAll-append}
 
+-- if the begin of a wake was not refused, its end is what follows it
 ends : (begun answer : Result Reply Refusal) (mid k : Driven) (n c now : ℕ) (reported : Reported)
     → is_ok begun ≡ true → Happens mid n (EndWake c now) answer reported k
     → EndHappens begun mid n c now reported k
 ends (Ok reply) answer mid k n c now reported ok h = (answer, h)
 ends (Err refusal) answer mid k n c now reported ok h = cc
 
--- both are reported
+-- where the begin and then the end are reported, the wake is reported
 pub wakes_both : {S : Type 0} (takes : S → ℕ → TraceEvent → S → Type 0) (m mid k : Driven) (n c task now : ℕ)
     (begun answer : Result Reply Refusal) (old middle new : S)
     → is_ok begun ≡ true → Gets takes old middle (λ reported. Happens m n (BeginWake c task) begun reported mid)

@@ -18,6 +18,7 @@ pub record HasRead (s : TracePosition) (input : List ℕ) (t : TracePosition) (o
   pub goes_on : Continues s [] input output t
   pub added : Appends old new output
 
+-- at the start nothing was read, and nothing was written
 nothing_read : (s : TracePosition) (w : Option (List ℕ)) → s.begun ≡ Some [] → HasRead s [] s w w
 nothing_read s w empty = record {
   output = [];
@@ -32,6 +33,7 @@ nothing_read s w empty = record {
   added = Appends-nil w;
 }
 
+-- one more piece that is fed is read behind the input
 one_more : (s t u : TracePosition) (input piece : List ℕ) (old now new : Option (List ℕ))
     → (h : HasRead s input t old now) → Feeds t h.goes_on.rest piece u now new
     → HasRead s (input ++ piece) u old new
@@ -41,7 +43,7 @@ one_more s t u input piece old now new h fed = record {
   added = Appends-trans old now new h.output fed.text h.added fed.added;
 }
 
--- some more pieces are read
+-- some more pieces that are fed are read behind the input
 more : (s t u : TracePosition) (input : List ℕ) (pieces : List (List ℕ)) (old now new : Option (List ℕ))
     → HasRead s input t old now → IsFed t pieces u now new → HasRead s (input ++ pieces_joined pieces) u old new
 more s t u input [] old now new h f =
