@@ -18,8 +18,9 @@ pub(crate) type LockedProcessor<'a, Q, N> = MutexGuard<'a, UnderLock<NumberedCpu
 
 /// The machine that `N` names, of `P` processors.
 ///
-/// To open one, call `bq_recording::prepare::<Q>(alloc, P, seats)`, and pass what it answers to a function over `N` at `std::marker::Brand`.
-/// The contract of that function says that these two are the ones that `N` names (`prepared.0 ≡ N.table`, `unnamed.0 ≡ N.counters`).
+/// To open one, call `bq_recording::prepare::<Q>(alloc, P, seats)`, and pass what it answers to a function over `N` at
+/// `std::marker::Brand`. The contract of that function says that these two are the ones that `N` names
+/// (`prepared.0 ≡ N.table`, `unnamed.0 ≡ N.counters`).
 /// The example is the body of such a function, with one processor under CFS, one seat, and a clock `Steady`.
 ///
 /// # Example

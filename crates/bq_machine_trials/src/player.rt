@@ -84,8 +84,8 @@ impl<'a, N: Naming + Counting, R: Abort + Wait> Player<'a, N, R> {
         }
     }
 
-    /// The history has this number of events. Whether that number of events of other seats come into it while a processor ticks. Its last tick
-    /// comes after them.
+    /// Lets a processor tick until `others` events of other seats stand before its last tick, or until it has looked often
+    /// enough. Returns whether they do. The history has `events` events before.
     fn sees_others(&mut self, processor: u8, events: u64, others: u64) -> bool {
         let mut next = events;
         for _ in 0..LOOKS {

@@ -31,8 +31,8 @@ pub struct Played<N: Naming + Counting> {
     pub read: Option<[u64; 3]>,
 }
 
-/// What came of all plays: whether a thread was held at the gate until another opened it, the machine's end, the receipts of each play,
-/// and what was read last of counters 0, 3 and 63.
+/// What came of all plays: whether a thread was held at the gate until another opened it, the machine's end, the receipts of
+/// each play, and what was read last of counters 0, 3 and 63.
 #[derive(Drop)]
 pub struct AllPlayed {
     pub opened: bool,
