@@ -10,7 +10,7 @@ use crate::clock::Clock;
 use crate::machine::Machine;
 use bq_disc::RunQueue;
 use bq_history::Naming;
-use bq_recording::{Closed, Locks, Recorder, Seat};
+use bq_recording::{Closed, Locks, MachineSeat, Recorder};
 use bq_shared::Counting;
 
 impl<Q: RunQueue + Drop, K: Clock + Drop, N: Naming + Counting, const P: usize> Machine<
@@ -20,7 +20,7 @@ impl<Q: RunQueue + Drop, K: Clock + Drop, N: Naming + Counting, const P: usize> 
     P,
 > {
     /// Whether these are all seats of the machine, each once. It takes no lock and no memory.
-    pub fn owns(&self, seats: &[Seat<N>]) -> bool
+    pub fn owns(&self, seats: &[MachineSeat<N>]) -> bool
         ensures { IsTrue result ↔ EachOnce self.now.recorder.history.callers seats.now }
     {
         bq_history::owns(self.seats, seats)
@@ -30,7 +30,7 @@ impl<Q: RunQueue + Drop, K: Clock + Drop, N: Naming + Counting, const P: usize> 
     /// world to that of the core; no event in it has refused arguments or ran out of memory. Each receipt is at its place,
     /// the places of each seat rise, and each place of the history has exactly one receipt. Each counter is the sum, modulo
     /// 2^64, of the adds in the history. Allocates nothing.
-    pub fn close(self, seats: Vec<Seat<N>>) -> Closed<Q, P>
+    pub fn close(self, seats: Vec<MachineSeat<N>>) -> Closed<Q, P>
         requires { EachOnce self.recorder.history.callers seats.items }
         ensures history { IsHistory (RecordStep Q.R.discipline) (opening_world P) result.history result.core }
         ensures receipts { AreReceiptsOf result.history seats.items }

@@ -18,7 +18,7 @@ use bq_hooks::Hook;
 use bq_installed::Policy;
 use bq_load::{LoadFault, load};
 use bq_parts::{Event, Refusal, Reply};
-use bq_recording::{Seat, WorkingSeat};
+use bq_recording::{MachineSeat, WorkingSeat};
 use bq_shared::{Counting, Record, record_room};
 use std::alloc::Global;
 use std::sync::Wait;
@@ -115,7 +115,7 @@ impl<Q: RunQueue + Drop, K: Clock + Drop, N: Naming + Counting, const P: usize> 
         &self,
         rt: &R,
         alloc: Global,
-        seat: &mut Seat<N>,
+        seat: &mut MachineSeat<N>,
         hook: Hook,
         image: Option<&[u8]>,
     ) -> Result<LoadReceipts, LoadRefused>
@@ -127,13 +127,13 @@ impl<Q: RunQueue + Drop, K: Clock + Drop, N: Naming + Counting, const P: usize> 
         let policy = policy_of(alloc, hook, image)?;
         let count = self.cpus.len();
         let (Ok(()), Ok(spares), Ok(mut installs)) = (
-            record_room(alloc, &mut seat.first),
+            record_room(alloc, &mut seat.record_room),
             spares(alloc, &policy, count),
             Vec::with_capacity(alloc, count),
         ) else {
             return Err(LoadRefused::Refusal(Refusal::OutOfMemory));
         };
-        let (draw, generation) = self.draw(rt, &mut seat.working, &mut seat.first);
+        let (draw, generation) = self.draw(rt, &mut seat.working, &mut seat.record_room);
         let loading = Loading {
             hook,
             generation,

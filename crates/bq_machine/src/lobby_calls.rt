@@ -14,7 +14,7 @@ use bq_disc::RunQueue;
 use bq_disc::limits::PROCESSORS;
 use bq_history::{Naming, Receipt, Room};
 use bq_parts::{Event, Refusal, Unlinked, new_task};
-use bq_recording::{Seat, WorkingSeat};
+use bq_recording::{MachineSeat, WorkingSeat};
 use bq_shared::{Counting, Record, record_room};
 use std::alloc::Global;
 use std::sync::Wait;
@@ -88,7 +88,7 @@ impl<Q: RunQueue + Drop, K: Clock + Drop, N: Naming + Counting, const P: usize> 
         &self,
         rt: &R,
         alloc: Global,
-        seat: &mut Seat<N>,
+        seat: &mut MachineSeat<N>,
         admission: Admission,
     ) -> Result<Receipt<Record>, Refusal>
         ensures receipt { IfOk result (λ r. seat.new ≡ (seat.old.0, seat.old.1 ++ r ∷ [])) }
@@ -98,8 +98,8 @@ impl<Q: RunQueue + Drop, K: Clock + Drop, N: Naming + Counting, const P: usize> 
         ensures err { OnErr result (seat.new ≡ seat.old) }
     {
         let count = self.cpus.len();
-        let new = new_task_with_room(alloc, &mut seat.first, count, admission)?;
-        Ok(self.admit_to_lobby(rt, &mut seat.working, &mut seat.first, admission, new))
+        let new = new_task_with_room(alloc, &mut seat.record_room, count, admission)?;
+        Ok(self.admit_to_lobby(rt, &mut seat.working, &mut seat.record_room, admission, new))
     }
 
     /// An admission under the lock of the lobby, from the lock to the record.
@@ -140,7 +140,7 @@ impl<Q: RunQueue + Drop, K: Clock + Drop, N: Naming + Counting, const P: usize> 
         &self,
         rt: &R,
         alloc: Global,
-        seat: &mut Seat<N>,
+        seat: &mut MachineSeat<N>,
         task: u16,
     ) -> Result<Receipt<Record>, Refusal>
         ensures receipt { IfOk result (λ r. seat.new ≡ (seat.old.0, seat.old.1 ++ r ∷ [])) }
@@ -153,8 +153,8 @@ impl<Q: RunQueue + Drop, K: Clock + Drop, N: Naming + Counting, const P: usize> 
         if let Some(refusal) = argument_refusal(self.cpus.len(), &event) {
             return Err(refusal);
         }
-        record_room(alloc, &mut seat.first)?;
-        Ok(self.retire_from_lobby(rt, &mut seat.working, &mut seat.first, task))
+        record_room(alloc, &mut seat.record_room)?;
+        Ok(self.retire_from_lobby(rt, &mut seat.working, &mut seat.record_room, task))
     }
 
     /// A retirement under the lock of the lobby, from the lock to the record.

@@ -3,12 +3,13 @@
 //! (`look`, `look_at_both`): that brings the fact to the proof, and changes nothing.
 ghost use Rattle.std.specs.Prelude.{◌≡◌, ◌≤◌, ◌<◌, vec_len};
 ghost use Rattle.std.specs.Sync.Mutex.{mutex_guard_value};
+ghost use Rattle.bq_disc.specs.declared.limits.TheConstants.{PROCESSORS};
 
 use crate::clock::Clock;
 use bq_bpf::board::COUNTERS;
 use bq_disc::RunQueue;
 use bq_history::Naming;
-use bq_recording::{ClosingRoom, Recorder, Seat, lock, need_own};
+use bq_recording::{ClosingRoom, MachineSeat, Recorder, lock, need_own};
 use bq_shared::{Counting, NumberedCpu, NumberedInbox, OneLobby, UnderLock};
 use std::sync::{Mutex, MutexGuard, Wait};
 
@@ -17,8 +18,9 @@ pub(crate) type LockedProcessor<'a, Q, N> = MutexGuard<'a, UnderLock<NumberedCpu
 
 /// The machine that `N` names, of `P` processors.
 ///
-/// To open one, call `bq_recording::prepare::<Q>(alloc, P, seats)`, and pass what it answers to a function over `N` at `std::marker::Brand`.
-/// The contract of that function says that these two are the ones that `N` names (`prepared.0 ≡ N.table`, `unnamed.0 ≡ N.counters`).
+/// To open one, call `bq_recording::prepare::<Q>(alloc, P, seats)`, and pass what it answers to a function over `N` at
+/// `std::marker::Brand`. The contract of that function says that these two are the ones that `N` names
+/// (`prepared.0 ≡ N.table`, `unnamed.0 ≡ N.counters`).
 /// The example is the body of such a function, with one processor under CFS, one seat, and a clock `Steady`.
 ///
 /// # Example
@@ -59,7 +61,7 @@ pub struct Machine<Q: RunQueue + Drop, K: Clock + Drop, N: Naming + Counting, co
     ghost about: { recorder.history.about ≡ P },
     ghost counted: { vec_len cpus ≡ P },
     ghost one_each: { vec_len inboxes ≡ P },
-    ghost few: { P ≤ 64 },
+    ghost few: { P ≤ PROCESSORS },
     ghost seated: { seats ≡ recorder.history.callers },
 }
 
@@ -70,7 +72,7 @@ impl<Q: RunQueue + Drop, K: Clock + Drop, N: Naming + Counting, const P: usize> 
     P,
 > {
     /// The value of a counter. It takes no lock and no memory, and is not recorded.
-    pub fn counter(&self, seat: &mut Seat<N>, counter: u8) -> u64
+    pub fn counter(&self, seat: &mut MachineSeat<N>, counter: u8) -> u64
         requires { counter < COUNTERS }
         ensures { seat.new ≡ seat.old }
     {

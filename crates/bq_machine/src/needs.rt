@@ -46,7 +46,7 @@ impl<Q: RunQueue + Drop, K: Clock + Drop, N: Naming + Counting, const P: usize> 
     }
 
     /// Prepares an event at a processor before the processor is locked. It is refused only for the processor's number or for
-    /// memory, whatever the event and its time. The contract names a tick at time 0 for all of them.
+    /// lack of memory. That holds for each event at each time, so the contract names just a tick at time 0.
     #[inline(always)]
     pub(crate) fn begin_call(
         &self,

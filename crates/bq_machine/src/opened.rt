@@ -1,13 +1,13 @@
 //! A machine at the start.
-ghost use Rattle.std.specs.Prelude.{◌≡◌, ◌≤◌, ◌^◌, [], All, IfOk, length};
+ghost use Rattle.std.specs.Prelude.{◌≡◌, ◌≤◌, [], All, IfOk, length};
 ghost use Rattle.bq_shared.specs.Calls.{fresh_callers};
 
 use crate::clock::Clock;
 use crate::machine::Machine;
 use bq_disc::RunQueue;
-use bq_disc::limits::PROCESSORS;
+use bq_disc::limits::{FIRST_MARK, PROCESSORS};
 use bq_history::Naming;
-use bq_recording::{Opening, Prepared, Seat, no_tasks};
+use bq_recording::{MachineSeat, Opening, Prepared, no_tasks};
 use bq_shared::{Counting, UnnamedCounters};
 use std::alloc::{AllocError, Global};
 
@@ -24,7 +24,7 @@ impl<Q: RunQueue + Drop, K: Clock + Drop, N: Naming + Counting, const P: usize> 
         prepared: Prepared<Q>,
         unnamed: UnnamedCounters,
         seat_count: u64,
-    ) -> Result<(Machine<Q, K, N, P>, Vec<Seat<N>>), AllocError>
+    ) -> Result<(Machine<Q, K, N, P>, Vec<MachineSeat<N>>), AllocError>
         requires few { P ≤ PROCESSORS }
         requires name { prepared.0 ≡ N.table }
         requires counters { unnamed.0 ≡ N.counters }
@@ -45,13 +45,13 @@ impl<Q: RunQueue + Drop, K: Clock + Drop, N: Naming + Counting, const P: usize> 
         prepared: Prepared<Q>,
         unnamed: UnnamedCounters,
         seat_count: u64,
-    ) -> Result<(Machine<Q, K, N, P>, Vec<Seat<N>>), AllocError>
+    ) -> Result<(Machine<Q, K, N, P>, Vec<MachineSeat<N>>), AllocError>
         requires few { P ≤ PROCESSORS }
         requires name { prepared.0 ≡ N.table }
         requires counters { unnamed.0 ≡ N.counters }
         requires counts { (prepared.1.about ≡ P) × (prepared.1.callers ≡ seat_count) × (unnamed.1 ≡ seat_count) }
         requires many { length queues.items ≡ P }
-        requires empty { All (λ q. (Q.members q ≡ []) × (Q.last_mark q ≡ 2 ^ 32)) queues.items }
+        requires empty { All (λ q. (Q.members q ≡ []) × (Q.last_mark q ≡ FIRST_MARK)) queues.items }
         ensures seats { IfOk result (λ r. r.1.items ≡ fresh_callers 0 seat_count) }
         ensures about { IfOk result (λ r. (r.0.recorder.history.about ≡ P) × (r.0.recorder.history.callers ≡ seat_count)) }
     {

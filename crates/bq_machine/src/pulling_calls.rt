@@ -13,7 +13,7 @@ use crate::records::Records;
 use bq_disc::RunQueue;
 use bq_history::{Naming, Receipt, Room, look_at_both};
 use bq_parts::{Event, Refusal};
-use bq_recording::{Seat, WorkingSeat};
+use bq_recording::{MachineSeat, WorkingSeat};
 use bq_shared::{CallRooms, Counting, Record, hold_calls};
 use std::alloc::Global;
 use std::sync::Wait;
@@ -31,7 +31,7 @@ impl<Q: RunQueue + Drop, K: Clock + Drop, N: Naming + Counting, const P: usize> 
         &self,
         rt: &R,
         alloc: Global,
-        seat: &mut Seat<N>,
+        seat: &mut MachineSeat<N>,
         processor: u8,
         from: u8,
     ) -> Result<Receipt<Record>, Refusal>
@@ -42,12 +42,12 @@ impl<Q: RunQueue + Drop, K: Clock + Drop, N: Naming + Counting, const P: usize> 
         ensures err { OnErr result (seat.new ≡ seat.old) }
     {
         self.need_both(processor, from)?;
-        rooms_of_event(alloc, &mut seat.first, &mut seat.rooms)?;
+        rooms_of_event(alloc, &mut seat.record_room, &mut seat.call_rooms)?;
         Ok(self.pull_at(
             rt,
             &mut seat.working,
-            &mut seat.first,
-            &mut seat.rooms,
+            &mut seat.record_room,
+            &mut seat.call_rooms,
             processor,
             from,
         ))
@@ -91,7 +91,7 @@ impl<Q: RunQueue + Drop, K: Clock + Drop, N: Naming + Counting, const P: usize> 
             &mut counter_board,
         );
         working.close_board(counter_board);
-        let calls = hold_calls(calls, content.scratch.calls());
+        let held = hold_calls(calls, content.scratch.calls());
         let mut journal = self.recorder.lock_journal(rt);
         let kept = journal.kept().after_pull(processor, from, &reply);
         let event = Event::Pull {
@@ -99,7 +99,7 @@ impl<Q: RunQueue + Drop, K: Clock + Drop, N: Naming + Counting, const P: usize> 
             from,
             now,
         };
-        let draft = Records::of(event, &Ok(reply), calls).draft(room, kept);
+        let draft = Records::of(event, &Ok(reply), held).draft(room, kept);
         working.commit_two(
             &self.recorder.history,
             &mut *journal,

@@ -1,4 +1,4 @@
-//! The calls of one processor: its clock ticks, its inbox's tasks enter, and its running task goes to sleep.
+//! The calls at one processor: its clock ticks, the tasks of its inbox enter its queue, and its running task goes to sleep.
 ghost use Rattle.std.specs.Prelude.{◌≡◌, ◌∷◌, ◌++◌, ◌<◌, ℕ, [], IfOk, IfErr, OnErr, is_some, true};
 ghost use Rattle.bq_shared.specs.Calls.{account_of};
 ghost use Rattle.bq_shared.specs.Parts.{reported_calls};
@@ -10,7 +10,7 @@ use crate::records::Records;
 use bq_disc::RunQueue;
 use bq_history::{Naming, Receipt, Room, look_at_both};
 use bq_parts::{Event, Refusal};
-use bq_recording::{Seat, WorkingSeat};
+use bq_recording::{MachineSeat, WorkingSeat};
 use bq_shared::{CallRooms, Counting, Record, hold_calls, record_room};
 use std::alloc::Global;
 use std::sync::Wait;
@@ -29,7 +29,7 @@ impl<Q: RunQueue + Drop, K: Clock + Drop, N: Naming + Counting, const P: usize> 
         &self,
         rt: &R,
         alloc: Global,
-        seat: &mut Seat<N>,
+        seat: &mut MachineSeat<N>,
         processor: u8,
     ) -> Result<Receipt<Record>, Refusal>
         ensures receipt { IfOk result (λ r. seat.new ≡ (seat.old.0, seat.old.1 ++ r ∷ [])) }
@@ -38,12 +38,17 @@ impl<Q: RunQueue + Drop, K: Clock + Drop, N: Naming + Counting, const P: usize> 
         ensures refused { IfErr result (IsCallRefused P (Event.Tick processor 0)) }
         ensures err { OnErr result (seat.new ≡ seat.old) }
     {
-        self.begin_call(alloc, &mut seat.first, &mut seat.rooms, processor)?;
+        self.begin_call(
+            alloc,
+            &mut seat.record_room,
+            &mut seat.call_rooms,
+            processor,
+        )?;
         Ok(self.tick_at(
             rt,
             &mut seat.working,
-            &mut seat.first,
-            &mut seat.rooms,
+            &mut seat.record_room,
+            &mut seat.call_rooms,
             processor,
         ))
     }
@@ -77,8 +82,8 @@ impl<Q: RunQueue + Drop, K: Clock + Drop, N: Naming + Counting, const P: usize> 
             .state
             .tick(processor, now, &mut content.scratch, &mut counter_board);
         working.close_board(counter_board);
-        let calls = hold_calls(calls, content.scratch.calls());
-        let draft = Records::of_tick(processor, now, reply, calls).draft(room, None);
+        let held = hold_calls(calls, content.scratch.calls());
+        let draft = Records::of_tick(processor, now, reply, held).draft(room, None);
         let mut journal = self.recorder.lock_journal(rt);
         working.commit_one(&self.recorder.history, &mut *journal, &mut cpu.cell, draft)
     }
@@ -90,7 +95,7 @@ impl<Q: RunQueue + Drop, K: Clock + Drop, N: Naming + Counting, const P: usize> 
         &self,
         rt: &R,
         alloc: Global,
-        seat: &mut Seat<N>,
+        seat: &mut MachineSeat<N>,
         processor: u8,
     ) -> Result<Receipt<Record>, Refusal>
         ensures receipt { IfOk result (λ r. seat.new ≡ (seat.old.0, seat.old.1 ++ r ∷ [])) }
@@ -99,12 +104,17 @@ impl<Q: RunQueue + Drop, K: Clock + Drop, N: Naming + Counting, const P: usize> 
         ensures refused { IfErr result (IsCallRefused P (Event.Drain processor 0)) }
         ensures err { OnErr result (seat.new ≡ seat.old) }
     {
-        self.begin_call(alloc, &mut seat.first, &mut seat.rooms, processor)?;
+        self.begin_call(
+            alloc,
+            &mut seat.record_room,
+            &mut seat.call_rooms,
+            processor,
+        )?;
         Ok(self.drain_at(
             rt,
             &mut seat.working,
-            &mut seat.first,
-            &mut seat.rooms,
+            &mut seat.record_room,
+            &mut seat.call_rooms,
             processor,
         ))
     }
@@ -143,9 +153,9 @@ impl<Q: RunQueue + Drop, K: Clock + Drop, N: Naming + Counting, const P: usize> 
             &mut counter_board,
         );
         working.close_board(counter_board);
-        let calls = hold_calls(calls, content.scratch.calls());
+        let held = hold_calls(calls, content.scratch.calls());
         let event = Event::Drain { processor, now };
-        let draft = Records::of(event, &Ok(reply), calls).draft(room, None);
+        let draft = Records::of(event, &Ok(reply), held).draft(room, None);
         let mut journal = self.recorder.lock_journal(rt);
         working.commit_two(
             &self.recorder.history,
@@ -163,7 +173,7 @@ impl<Q: RunQueue + Drop, K: Clock + Drop, N: Naming + Counting, const P: usize> 
         &self,
         rt: &R,
         alloc: Global,
-        seat: &mut Seat<N>,
+        seat: &mut MachineSeat<N>,
         processor: u8,
     ) -> Result<Receipt<Record>, Refusal>
         ensures receipt { IfOk result (λ r. seat.new ≡ (seat.old.0, seat.old.1 ++ r ∷ [])) }
@@ -173,8 +183,8 @@ impl<Q: RunQueue + Drop, K: Clock + Drop, N: Naming + Counting, const P: usize> 
         ensures err { OnErr result (seat.new ≡ seat.old) }
     {
         self.need_processor(processor)?;
-        record_room(alloc, &mut seat.first)?;
-        Ok(self.block_at(rt, &mut seat.working, &mut seat.first, processor))
+        record_room(alloc, &mut seat.record_room)?;
+        Ok(self.block_at(rt, &mut seat.working, &mut seat.record_room, processor))
     }
 
     /// A block under the locks of the processor and the lobby, from the locks to the record.

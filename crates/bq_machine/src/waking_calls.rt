@@ -23,7 +23,7 @@ use bq_disc::RunQueue;
 use bq_disc::limits::{PROCESSORS, TASKS};
 use bq_history::{Naming, Receipt, Room};
 use bq_parts::{Event, Placement, Refusal, Reply};
-use bq_recording::{CpuCell, Seat, WorkingSeat};
+use bq_recording::{CpuCell, MachineSeat, WorkingSeat};
 use bq_shared::{
     CallRooms, Counters, Counting, NumberedCpu, PackedAnswer, Record, hold_calls, loads_room,
     record_room,
@@ -72,7 +72,7 @@ impl<Q: RunQueue + Drop, K: Clock + Drop, N: Naming + Counting, const P: usize> 
         &self,
         rt: &R,
         alloc: Global,
-        seat: &mut Seat<N>,
+        seat: &mut MachineSeat<N>,
         processor: u8,
         task: u16,
     ) -> Result<WakeReceipts, Refusal>
@@ -86,14 +86,19 @@ impl<Q: RunQueue + Drop, K: Clock + Drop, N: Naming + Counting, const P: usize> 
         if let Some(refusal) = argument_refusal(self.cpus.len(), &event) {
             return Err(refusal);
         }
-        let loads = wake_rooms(alloc, &mut seat.first, &mut seat.second, &mut seat.rooms)?;
+        let loads = wake_rooms(
+            alloc,
+            &mut seat.record_room,
+            &mut seat.second_record_room,
+            &mut seat.call_rooms,
+        )?;
         let begin = BeginRooms {
-            record: &mut seat.first,
+            record: &mut seat.record_room,
             loads,
         };
         let end = EventRooms {
-            record: &mut seat.second,
-            calls: &mut seat.rooms,
+            record: &mut seat.second_record_room,
+            calls: &mut seat.call_rooms,
         };
         Ok(self.wake_at(rt, &mut seat.working, processor, task, begin, end))
     }

@@ -4,7 +4,7 @@ use bq_disc::RunQueue;
 use bq_history::{Naming, Receipt};
 use bq_machine::{Admission, Clock, Machine};
 use bq_parts::Refusal;
-use bq_recording::Seat;
+use bq_recording::MachineSeat;
 use bq_shared::{Counting, Record};
 use std::alloc::Global;
 use std::sync::Wait;
@@ -33,7 +33,7 @@ pub fn ask<Q: RunQueue + Drop, K: Clock + Drop, N: Naming + Counting, R: Wait, c
     rt: &R,
     alloc: Global,
     machine: &Machine<Q, K, N, P>,
-    seat: &mut Seat<N>,
+    seat: &mut MachineSeat<N>,
     request: Request,
 ) -> Result<Receipts, Refusal> {
     let first = match request {

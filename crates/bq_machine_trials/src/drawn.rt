@@ -9,7 +9,7 @@ use bq_load::LoadFault;
 use bq_machine::{Admission, LoadRefused, Machine};
 use bq_par::Metronome;
 use bq_parts::Refusal;
-use bq_recording::Seat;
+use bq_recording::MachineSeat;
 use bq_shared::Counting;
 use std::alloc::{AllocError, Global};
 use std::sync::Wait;
@@ -23,14 +23,14 @@ pub type RaceTrack<Q, N> = Machine<Q, Metronome, N, 64>;
 /// A seat, and the seed of what its thread draws.
 #[derive(Drop)]
 pub struct Racer<N: Naming + Counting> {
-    pub seat: Seat<N>,
+    pub seat: MachineSeat<N>,
     pub seed: u64,
 }
 
 /// Seats with seeds of their own.
 pub fn racers<N: Naming + Counting>(
     alloc: Global,
-    seats: Vec<Seat<N>>,
+    seats: Vec<MachineSeat<N>>,
 ) -> Result<Vec<Racer<N>>, AllocError> {
     let mut racers = Vec::new(alloc);
     let mut seed = 0x9e37_79b9_7f4a_7c15u64;
@@ -94,7 +94,7 @@ fn draw<Q: RunQueue + Drop, N: Naming + Counting, R: Wait>(
     rt: &R,
     alloc: Global,
     machine: &RaceTrack<Q, N>,
-    seat: &mut Seat<N>,
+    seat: &mut MachineSeat<N>,
     number: u64,
     other: u64,
 ) -> bool {
@@ -128,7 +128,7 @@ pub fn race<Q: RunQueue + Drop, N: Naming + Counting, R: Wait>(
     machine: &RaceTrack<Q, N>,
     racer: Racer<N>,
     calls: u32,
-) -> Option<Seat<N>> {
+) -> Option<MachineSeat<N>> {
     let Racer { mut seat, seed } = racer;
     let mut number = seed;
     for _ in 0..calls {

@@ -1,8 +1,9 @@
 //! A run queue under CFS whose calls may be held at a gate.
-ghost use Rattle.std.specs.Prelude.{◌≡◌, ◌^◌, []};
+ghost use Rattle.std.specs.Prelude.{◌≡◌, []};
 
 use crate::gate::{Gate, Point};
 use bq_cfs::CfsQueue;
+use bq_disc::limits::FIRST_MARK;
 use bq_disc::{Movable, Node, RunQueue};
 use std::alloc::Global;
 use std::sync::Arc;
@@ -17,7 +18,7 @@ pub struct HeldQueue {
 impl HeldQueue {
     /// A queue without tasks, whose calls come to the gate, if there is one.
     pub fn at(gate: Option<Arc<Gate, Global>>) -> HeldQueue
-        ensures { (result.queue.members ≡ []) × (result.queue.mark ≡ 2 ^ 32) }
+        ensures { (result.queue.members ≡ []) × (result.queue.mark ≡ FIRST_MARK) }
     {
         HeldQueue {
             queue: CfsQueue::empty(),

@@ -13,7 +13,7 @@ use bq_hooks::{By, Hook};
 use bq_load::LoadFault;
 use bq_machine::{Admission, Clock, LoadRefused, Machine};
 use bq_parts::{Refusal, Reply};
-use bq_recording::{Prepared, Seat, prepare};
+use bq_recording::{MachineSeat, Prepared, prepare};
 use bq_shared::{Counting, Record, UnnamedCounters};
 use std::alloc::Global;
 use std::marker::Brand;
@@ -190,7 +190,7 @@ fn is_answered<N: Naming + Counting, R: Wait, const P: usize>(
     rt: &R,
     alloc: Global,
     machine: &Single<N, P>,
-    seat: &mut Seat<N>,
+    seat: &mut MachineSeat<N>,
     asked: Asked,
 ) -> bool {
     match asked {
@@ -228,7 +228,7 @@ fn are_answered<N: Naming + Counting, R: Abort + Wait, const P: usize>(
     rt: &R,
     alloc: Global,
     machine: &Single<N, P>,
-    seat: &mut Seat<N>,
+    seat: &mut MachineSeat<N>,
     all: &[Asked],
 ) {
     for asked in all {

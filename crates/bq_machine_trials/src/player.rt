@@ -8,7 +8,7 @@ use crate::play::{Play, Step};
 use bq_history::{Naming, Receipt};
 use bq_hooks::Hook;
 use bq_machine::Machine;
-use bq_recording::Seat;
+use bq_recording::MachineSeat;
 use bq_shared::{Counting, Record};
 use std::alloc::Global;
 use std::process::Abort;
@@ -35,7 +35,7 @@ pub struct Player<'a, N: Naming + Counting, R: Abort + Wait> {
     pub alloc: Global,
     pub machine: &'a Raced<N>,
     pub gate: &'a Gate,
-    pub seat: Seat<N>,
+    pub seat: MachineSeat<N>,
     pub receipts: Vec<Receipt<Record>>,
     pub read: Option<[u64; 3]>,
 }
@@ -84,8 +84,8 @@ impl<'a, N: Naming + Counting, R: Abort + Wait> Player<'a, N, R> {
         }
     }
 
-    /// The history has this number of events. Whether that number of events of other seats come into it while a processor ticks. Its last tick
-    /// comes after them.
+    /// Lets a processor tick until `others` events of other seats stand before its last tick, or until it has looked often
+    /// enough. Returns whether they do. The history has `events` events before.
     fn sees_others(&mut self, processor: u8, events: u64, others: u64) -> bool {
         let mut next = events;
         for _ in 0..LOOKS {

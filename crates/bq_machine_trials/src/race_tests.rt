@@ -9,7 +9,7 @@ use bq_disc::RunQueue;
 use bq_eevdf::EevdfQueue;
 use bq_history::Naming;
 use bq_par::Metronome;
-use bq_recording::{Closed, Prepared, Seat, prepare};
+use bq_recording::{Closed, MachineSeat, Prepared, prepare};
 use bq_shared::{Counting, UnnamedCounters};
 use std::alloc::Global;
 use std::marker::Brand;
@@ -30,8 +30,8 @@ const EVENTS: u64 = 1_000_000;
 fn returned<N: Naming + Counting>(
     rt: &impl Abort,
     alloc: Global,
-    done: Vec<Option<Seat<N>>>,
-) -> Vec<Seat<N>> {
+    done: Vec<Option<MachineSeat<N>>>,
+) -> Vec<MachineSeat<N>> {
     let mut seats = Vec::new(alloc);
     for seat in done {
         seats.push(seat.expect(rt, "memory")).expect(rt, "memory");

@@ -1,13 +1,14 @@
 //! Scripts, and what comes of them.
-ghost use Rattle.std.specs.Prelude.{◌≡◌, ◌^◌, [], All, IfOk, length, vec_len};
+ghost use Rattle.std.specs.Prelude.{◌≡◌, [], All, IfOk, length, vec_len};
 
 use crate::counting_clock::CountingClock;
 use crate::gate::{Gate, Point};
 use crate::held_queue::HeldQueue;
 use crate::play::{Play, Script};
 use crate::player::{Player, Raced};
+use bq_disc::limits::FIRST_MARK;
 use bq_history::{Naming, Receipt};
-use bq_recording::{Closed, Prepared, Seat, prepare};
+use bq_recording::{Closed, MachineSeat, Prepared, prepare};
 use bq_shared::{Counting, Record, UnnamedCounters};
 use std::alloc::{AllocError, Global};
 use std::marker::Brand;
@@ -18,20 +19,20 @@ use std::thread::{Threads, map_vec};
 /// A seat, and what its thread is to do.
 #[derive(Drop)]
 pub struct Job<N: Naming + Counting> {
-    pub seat: Seat<N>,
+    pub seat: MachineSeat<N>,
     pub play: Play,
 }
 
 /// A seat with the receipts that it got, and counters 0, 3 and 63, if it read them.
 #[derive(Drop)]
 pub struct Played<N: Naming + Counting> {
-    pub seat: Seat<N>,
+    pub seat: MachineSeat<N>,
     pub receipts: Vec<Receipt<Record>>,
     pub read: Option<[u64; 3]>,
 }
 
-/// What came of all plays: whether a thread was held at the gate until another opened it, the machine's end, the receipts of each play,
-/// and what was read last of counters 0, 3 and 63.
+/// What came of all plays: whether a thread was held at the gate until another opened it, the machine's end, the receipts of
+/// each play, and what was read last of counters 0, 3 and 63.
 #[derive(Drop)]
 pub struct AllPlayed {
     pub opened: bool,
@@ -95,7 +96,7 @@ fn work<N: Naming + Counting, R: Abort + Wait>(
 /// What was collected so far: seats that have come back, receipts, and what was read last of the counters.
 #[derive(Drop)]
 struct Collected<N: Naming + Counting> {
-    seats: Vec<Seat<N>>,
+    seats: Vec<MachineSeat<N>>,
     receipts: Vec<Vec<Receipt<Record>>>,
     read: Option<[u64; 3]>,
 }
@@ -155,7 +156,7 @@ fn play_script<N: Naming + Counting + Send + Sync, R: Abort + Threads + Wait + S
     alloc: Global,
     machine: &Raced<N>,
     gate: &Gate,
-    seats: Vec<Seat<N>>,
+    seats: Vec<MachineSeat<N>>,
     script: &Script<'_>,
 ) -> Collected<N> {
     let mut collected = Collected {
@@ -194,7 +195,7 @@ fn play_all<N: Naming + Counting + Send + Sync, R: Abort + Threads + Wait + Sync
     requires counters { unnamed.0 ≡ N.counters }
     requires counts { (prepared.1.about ≡ 4) × (prepared.1.callers ≡ count) × (unnamed.1 ≡ count) }
     requires many { length parts.queues.items ≡ 4 }
-    requires empty { All (λ q. (q.queue.members ≡ []) × (q.queue.mark ≡ 2 ^ 32)) parts.queues.items }
+    requires empty { All (λ q. (q.queue.members ≡ []) × (q.queue.mark ≡ FIRST_MARK)) parts.queues.items }
 {
     let Parts { clock, queues } = parts;
     let (machine, seats) = Raced::<N>::with_queues(
@@ -224,7 +225,7 @@ fn queues(
     gate: Arc<Gate, Global>,
 ) -> Result<Vec<HeldQueue>, AllocError>
     ensures many { IfOk result (λ v. vec_len v ≡ count) }
-    ensures empty { IfOk result (λ v. All (λ q. (q.queue.members ≡ []) × (q.queue.mark ≡ 2 ^ 32)) v.items) }
+    ensures empty { IfOk result (λ v. All (λ q. (q.queue.members ≡ []) × (q.queue.mark ≡ FIRST_MARK)) v.items) }
 {
     let mut queues = Vec::new(alloc);
     let mut gate = Some(gate);
@@ -242,7 +243,7 @@ fn again(rt: &impl Abort, gate: &Arc<Gate, Global>) -> Arc<Gate, Global> {
 /// The parts of a machine of four processors, where the clocks' readings and the calls of processor 0's queue come to the gate.
 fn parts_of_four(rt: &impl Abort, alloc: Global, gate: &Arc<Gate, Global>) -> Parts
     ensures many { length result.queues.items ≡ 4 }
-    ensures empty { All (λ q. (q.queue.members ≡ []) × (q.queue.mark ≡ 2 ^ 32)) result.queues.items }
+    ensures empty { All (λ q. (q.queue.members ≡ []) × (q.queue.mark ≡ FIRST_MARK)) result.queues.items }
 {
     let clock = CountingClock::new(alloc, 4, again(rt, gate)).expect(rt, "memory");
     let Ok(queues) = queues(alloc, 4, again(rt, gate)) else {

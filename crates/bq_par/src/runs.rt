@@ -13,7 +13,7 @@ use bq_disc::limits::PROCESSORS;
 use bq_history::Naming;
 use bq_machine::Machine;
 use bq_parts::Refusal;
-use bq_recording::{Prepared, Seat, prepare};
+use bq_recording::{MachineSeat, Prepared, prepare};
 use bq_shared::{Counting, UnnamedCounters};
 use bq_words::ProcessorCount;
 use std::alloc::{AllocError, Global};
@@ -114,7 +114,7 @@ fn drive_all<
     rt: &T,
     alloc: Global,
     machine: &Machine<Q, Metronome, N, P>,
-    seats: Vec<Seat<N>>,
+    seats: Vec<MachineSeat<N>>,
     ticks: u32,
 ) -> Result<Vec<Result<ReturnedSeat<N>, Refusal>>, AllocError>
 where
@@ -126,7 +126,7 @@ where
     map_vec(
         rt,
         seats,
-        &|seat: Seat<N>| -> Result<ReturnedSeat<N>, Refusal>
+        &|seat: MachineSeat<N>| -> Result<ReturnedSeat<N>, Refusal>
             requires number { seat.0 < 256 }
             requires fresh { seat.1 ≡ [] }
             ensures { IfOk result (λ d. IsShift d.seat.0 ticks d.seat.1) }

@@ -8,7 +8,7 @@ use bq_disc::limits::DEFAULT_SLICE;
 use bq_history::{Naming, Numbered, Receipt};
 use bq_machine::{Admission, Clock, Machine, WakeReceipts};
 use bq_parts::Refusal;
-use bq_recording::Seat;
+use bq_recording::MachineSeat;
 use bq_shared::{Counting, Record};
 use std::alloc::Global;
 use std::sync::Wait;
@@ -16,7 +16,7 @@ use std::sync::Wait;
 /// A seat that has come back, and all receipts that it got.
 #[derive(Drop)]
 pub struct ReturnedSeat<N: Naming + Counting> {
-    pub seat: Seat<N>,
+    pub seat: MachineSeat<N>,
     pub receipts: Vec<Receipt<Record>>,
     ghost held: { seat.1 ≡ receipts.items },
 }
@@ -34,7 +34,7 @@ pub fn drive<Q: RunQueue + Drop, K: Clock + Drop, N: Naming + Counting, R: Wait,
     rt: &R,
     alloc: Global,
     machine: &Machine<Q, K, N, P>,
-    seat: Seat<N>,
+    seat: MachineSeat<N>,
     ticks: u32,
 ) -> Result<ReturnedSeat<N>, Refusal>
     requires number { seat.0 < 256 }
@@ -60,7 +60,7 @@ fn tick_all<Q: RunQueue + Drop, K: Clock + Drop, N: Naming + Counting, R: Wait, 
     rt: &R,
     alloc: Global,
     machine: &Machine<Q, K, N, P>,
-    seat: &mut Seat<N>,
+    seat: &mut MachineSeat<N>,
     receipts: &mut Vec<Receipt<Record>>,
     duty: &Duty,
 ) -> Result<(), Refusal>
@@ -81,7 +81,7 @@ fn start<Q: RunQueue + Drop, K: Clock + Drop, N: Naming + Counting, R: Wait, con
     rt: &R,
     alloc: Global,
     machine: &Machine<Q, K, N, P>,
-    seat: &mut Seat<N>,
+    seat: &mut MachineSeat<N>,
     receipts: &mut Vec<Receipt<Record>>,
     processor: u8,
 ) -> Result<(), Refusal>

@@ -13,7 +13,7 @@ use bq_disc::RunQueue;
 use bq_history::{ClosedRecords, Compared, Naming, Receipt};
 use bq_machine::{Clock, Machine};
 use bq_parts::{Event, Refusal};
-use bq_recording::{Closed, Seat};
+use bq_recording::{Closed, MachineSeat};
 use bq_shared::{Counting, Record};
 use std::alloc::{AllocError, Global};
 
@@ -45,7 +45,7 @@ impl HistorySummary {
 /// The seats that came back, and the receipts of each.
 #[derive(Drop)]
 struct ReturnedSeats<N: Naming + Counting> {
-    seats: Vec<Seat<N>>,
+    seats: Vec<MachineSeat<N>>,
     lists: Vec<Vec<Receipt<Record>>>,
     ghost same: { map (λ l. l.items) lists.items ≡ map (λ s. s.1) seats.items },
 }

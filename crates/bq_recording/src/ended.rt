@@ -1,5 +1,6 @@
 //! The locks are taken apart, and their contents become the history and the core.
 ghost use Rattle.std.specs.Prelude.{◌≡◌, ◌≤◌, map, length, vec_len, vec_capacity};
+ghost use Rattle.bq_disc.specs.declared.limits.TheConstants.{PROCESSORS};
 ghost use Rattle.bq_history.specs.Whole.{count};
 ghost use Rattle.bq_history.specs.Items.{part_item};
 ghost use Rattle.bq_history.specs.History.{IsHistory, EachOnce, AreReceiptsOf};
@@ -15,7 +16,6 @@ use crate::closed::Closed;
 use crate::closing_room::ClosingRoom;
 use bq_core::Core;
 use bq_disc::RunQueue;
-use bq_disc::limits::PROCESSORS;
 use bq_history::{Holder, Item, Journal, Naming, contents_in_order, gather};
 use bq_parts::{Cpu, Inbox, Lobby};
 use bq_shared::{
@@ -37,13 +37,13 @@ pub struct Locks<Q: RunQueue + Drop, N: Naming + Counting, const P: usize> {
     pub ghost about: { history.about ≡ P },
     pub ghost counted: { vec_len cpus ≡ P },
     pub ghost one_each: { vec_len inboxes ≡ P },
-    pub ghost few: { P ≤ 64 },
+    pub ghost few: { P ≤ PROCESSORS },
     pub ghost same: { counters ≡ history.callers },
 }
 
 /// Ends a machine. `seats` must be all its seats, each once. Each event of the history is a step of the world, from the
-/// opening world to the core's. No event in it has refused arguments or ran out of memory. The receipts of the seats share
-/// the history out. Each counter is the sum of the adds in the history, modulo 2^64. It takes no memory.
+/// opening world to the core's. No event in it has refused arguments or ran out of memory. Each event has one
+/// receipt, at one of the seats. Each counter is the sum of the adds in the history, modulo 2^64. It takes no memory.
 pub fn close<Q: RunQueue + Drop, N: Naming + Counting, const P: usize>(
     locks: Locks<Q, N, P>,
     seats: Vec<Seat<Record, WorldPart, JournalState, N>>,

@@ -1,6 +1,6 @@
 //! The start and the end of a machine that many callers share. It starts as parts under their locks, a history, counters and
 //! seats. It ends as the history, the world that the history leads to, and the counters.
-//! Promises that at the end each event of the history is a step of the world, that the seats' receipts share it out, and
+//! Promises that at the end each event of the history is a step of the world and has one receipt, at one of the seats, and
 //! that each counter is the sum of its adds. Builds on bq_shared for the law, the cells, the seats and the counters.
 #![tactic(auto)]
 
@@ -20,4 +20,4 @@ pub use locked_parts::{PartLocks, part_locks};
 pub use opening::Opening;
 pub use prepared::{Prepared, prepare};
 pub use queues::no_tasks;
-pub use recorder::{CpuCell, Recorder, Seat, WorkingSeat, lock, need_own};
+pub use recorder::{CpuCell, MachineSeat, Recorder, WorkingSeat, lock, need_own};

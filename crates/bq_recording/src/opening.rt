@@ -1,5 +1,6 @@
 //! A machine's parts, its history, its counters and its seats at the start.
-ghost use Rattle.std.specs.Prelude.{◌≡◌, ◌≤◌, ◌^◌, ◌++◌, [], All, IfOk, length, map, vec_len, replicate};
+ghost use Rattle.std.specs.Prelude.{◌≡◌, ◌≤◌, ◌++◌, [], All, IfOk, length, map, vec_len, replicate};
+ghost use Rattle.bq_disc.specs.declared.limits.TheConstants.{FIRST_MARK, PROCESSORS};
 ghost use Rattle.bq_history.specs.Items.{callers_from, part_item};
 ghost use Rattle.bq_shared.specs.Calls.{fresh_callers};
 ghost use Rattle.bq_shared.specs.Sums.{opened};
@@ -7,9 +8,8 @@ ghost use Rattle.bq_shared.specs.Parts.{first_parts};
 
 use crate::locked_parts::{PartLocks, part_locks};
 use crate::prepared::Prepared;
-use crate::{ClosingRoom, Recorder, Seat};
+use crate::{ClosingRoom, MachineSeat, Recorder};
 use bq_disc::RunQueue;
-use bq_disc::limits::PROCESSORS;
 use bq_history::{Holder, Item, Journal, Naming};
 use bq_hooks::Loads;
 use bq_shared::{
@@ -32,7 +32,7 @@ pub struct Opening<Q: RunQueue + Drop, N: Naming + Counting, const P: usize> {
     ghost about: { recorder.history.about ≡ P },
     ghost counted: { vec_len cpus ≡ P },
     ghost one_each: { vec_len inboxes ≡ P },
-    ghost few: { P ≤ 64 },
+    ghost few: { P ≤ PROCESSORS },
     ghost seated: { seats ≡ recorder.history.callers },
 }
 
@@ -45,13 +45,13 @@ impl<Q: RunQueue + Drop, N: Naming + Counting, const P: usize> Opening<Q, N, P> 
         prepared: Prepared<Q>,
         unnamed: UnnamedCounters,
         seat_count: u64,
-    ) -> Result<(Opening<Q, N, P>, Vec<Seat<N>>), AllocError>
+    ) -> Result<(Opening<Q, N, P>, Vec<MachineSeat<N>>), AllocError>
         requires few { P ≤ PROCESSORS }
         requires name { prepared.0 ≡ N.table }
         requires counters { unnamed.0 ≡ N.counters }
         requires counts { (prepared.1.about ≡ P) × (prepared.1.callers ≡ seat_count) × (unnamed.1 ≡ seat_count) }
         requires many { length queues.items ≡ P }
-        requires empty { All (λ q. (Q.members q ≡ []) × (Q.last_mark q ≡ 2 ^ 32)) queues.items }
+        requires empty { All (λ q. (Q.members q ≡ []) × (Q.last_mark q ≡ FIRST_MARK)) queues.items }
         ensures seats { IfOk result (λ r. r.1.items ≡ fresh_callers 0 seat_count) }
         ensures count { IfOk result (λ r. r.0.seats ≡ seat_count) }
     {

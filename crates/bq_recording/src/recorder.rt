@@ -1,6 +1,7 @@
 //! What all callers share besides the locks of the world's parts.
 ghost use Rattle.std.specs.Prelude.{◌≡◌, ◌≤◌, ◌<◌, ◌+◌, ◌^◌, length};
 ghost use Rattle.std.specs.Sync.Mutex.{mutex_guard_value};
+ghost use Rattle.bq_disc.specs.declared.limits.TheConstants.{PROCESSORS};
 
 use bq_disc::RunQueue;
 use bq_history::{Cell, Journal, Naming};
@@ -9,8 +10,8 @@ use bq_shared::{
 };
 use std::sync::{Mutex, MutexGuard, Wait};
 
-/// A caller's end of a machine. Contracts see its number and its receipts, in order.
-pub type Seat<N> = bq_shared::Seat<Record, WorldPart, JournalState, N>;
+/// A caller's access to a machine. Contracts see its number and its receipts, in order.
+pub type MachineSeat<N> = bq_shared::Seat<Record, WorldPart, JournalState, N>;
 
 /// What a seat has while an event is under way.
 pub type WorkingSeat<N> = Working<Record, WorldPart, JournalState, N>;
@@ -28,7 +29,7 @@ pub struct Recorder<Q: RunQueue + Drop, N: Naming + Counting> {
     pub history: Shared<Q, N>,
     pub counters: Counters<N>,
     pub journal: Mutex<Journal<Record, WorldPart, JournalState, N>>,
-    pub ghost few: { history.about ≤ 64 },
+    pub ghost few: { history.about ≤ PROCESSORS },
     pub ghost same: { counters ≡ history.callers },
 }
 

@@ -24,7 +24,7 @@ impl Counting for Brand {
     ghost counters = { record { words = 0; slots = 0; views_name = 0; atom = 0; block = 0; offset = 0; slot_names = [] } };
 }
 
-/// A tally of the counters that `N` names: it holds an account. It has no bytes.
+/// Lets its owner call the counters that `N` names, and holds the account of those calls. It has no bytes.
 #[derive(Drop)]
 pub struct CounterTally<N: Counting> {
     pub(crate) seat: Seat<(), Account>,
@@ -84,7 +84,7 @@ impl Play<(), Account> for Looking {
     ghost then = { λ _ v _ w. (w.0 ≡ v.0) × (w.1 ≡ v.1) };
 }
 
-/// A look without a seat yet: it makes an account of no seat.
+/// A look by one who has no account yet. It makes an account of no seat.
 pub struct UnseatedLook;
 
 impl Play<(), Account> for UnseatedLook {

@@ -73,7 +73,7 @@ impl PackedAnswer {
         requires { has_loads answer.now ≡ false }
         ensures { result ≡ answer.now }
     {
-        PackedAnswer::kept(answer, None)
+        PackedAnswer::packed(answer, None)
     }
 
     /// Packs a refusal.
@@ -99,10 +99,11 @@ impl PackedAnswer {
     pub fn with_room(answer: &Result<Reply, Refusal>, room: Box<Loads>) -> PackedAnswer
         ensures { result ≡ answer.now }
     {
-        PackedAnswer::kept(answer, Some(room))
+        PackedAnswer::packed(answer, Some(room))
     }
 
-    fn kept(answer: &Result<Reply, Refusal>, room: Option<Box<Loads>>) -> PackedAnswer
+    /// Packs an answer case by case. Its loads, if it has any, go into `room`, which may be None if it has none.
+    fn packed(answer: &Result<Reply, Refusal>, room: Option<Box<Loads>>) -> PackedAnswer
         requires { has_loads answer.now ≡ true → is_some room ≡ true }
         ensures { result ≡ answer.now }
     {

@@ -25,7 +25,7 @@ pub struct NumberedInbox {
     pub state: Inbox,
 }
 
-/// The lobby.
+/// The lobby. There is only one, so it needs no number.
 #[derive(Drop)]
 pub struct OneLobby {
     pub state: Lobby,

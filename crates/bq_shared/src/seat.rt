@@ -22,12 +22,14 @@ pub trait ReportsCalls {
 /// the calls in those receipts.
 #[derive(Drop)]
 pub struct Seat<R: ReportsCalls + Drop, P, D, N: Naming + Counting> {
+    /// The caller and its account. An event borrows them apart from the rooms.
     pub working: Working<R, P, D, N>,
-    // Room for the record of the next event, and of the one after it if two come together.
-    pub first: Room<R>,
-    pub second: Room<R>,
-    // Room for the calls of the next event that has some, or None.
-    pub rooms: Option<CallRooms>,
+    /// Room for the record of the next event.
+    pub record_room: Room<R>,
+    /// Room for the record of the event after it, if two come together.
+    pub second_record_room: Room<R>,
+    /// Room for the calls of the next event that has some, or None.
+    pub call_rooms: Option<CallRooms>,
 }
 
 impl<R: ReportsCalls + Drop, P, D, N: Naming + Counting> Model for Seat<R, P, D, N> {
@@ -52,9 +54,9 @@ impl<R: ReportsCalls + Drop, P, D, N: Naming + Counting> Seat<R, P, D, N> {
     {
         Seat {
             working: Working { caller, tally },
-            first: Room::new(),
-            second: Room::new(),
-            rooms: None,
+            record_room: Room::new(),
+            second_record_room: Room::new(),
+            call_rooms: None,
         }
     }
 

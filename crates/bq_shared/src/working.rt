@@ -41,7 +41,7 @@ impl<R: ReportsCalls, P, D, N: Naming + Counting> Working<R, P, D, N> {
         counters.join(&mut self.tally, tally);
     }
 
-    /// Commits a record that changes no part. The record has the calls that the account has more than the receipts.
+    /// Commits a record that changes no part. The record has those calls of the account that no receipt has yet.
     pub fn commit<M: World<Record = R, Part = P, Kept = D>>(
         &mut self,
         history: &History<M, N>,

@@ -10,7 +10,7 @@ use bq_history::Naming;
 use bq_hooks::Hook;
 use bq_machine::{Clock, LoadRefused, Machine};
 use bq_policy_file::{Head, PolicySource, read_policy};
-use bq_recording::{Prepared, Seat, prepare};
+use bq_recording::{MachineSeat, Prepared, prepare};
 use bq_shared::{Counting, UnnamedCounters};
 use bq_verify::{Refused, verify};
 use std::alloc::Global;
@@ -180,7 +180,7 @@ fn is_loaded<N: Naming + Counting, R: Abort + Wait>(
     rt: &R,
     alloc: Global,
     machine: &Single<N>,
-    seat: &mut Seat<N>,
+    seat: &mut MachineSeat<N>,
     text: &str,
 ) {
     let Sample { image, refusal } = sample_of(rt, alloc, text);

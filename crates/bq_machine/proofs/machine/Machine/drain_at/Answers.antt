@@ -58,14 +58,14 @@ commit_two-requires-clause-may g c =
       inbox_part box.number box.state,
       c.cpu.invariant.0,
       c.inbox.invariant.0,
-      rw (c.draft-draft.ensures, c.of.ensures, c.hold_calls-calls.ensures.record, c.calls.ensures.value, t.ensures.emptied, box_at, at)
+      rw (c.draft-draft.ensures, c.of.ensures, c.hold_calls-held.ensures.record, c.calls.ensures.value, t.ensures.emptied, box_at, at)
           (drain_moves d n c.args.processor c.now-now.result own.state t.new.self box.state t.new.scratch k t.result t.ensures.share),
     )
 
 pub commit_two-requires-clause-reported : goal.commit_two-requires-clause-reported
 commit_two-requires-clause-reported g c =
     let t = c.drain-reply in
-    rw (c.draft-draft.ensures, c.of.ensures, c.hold_calls-calls.ensures.record, c.calls.ensures.value)
+    rw (c.draft-draft.ensures, c.of.ensures, c.hold_calls-held.ensures.record, c.calls.ensures.value)
     (ahead_of (λ x. x.tally) c.open_board-counter_board.result t.new.board c.args.working.now.caller.1
     c.close_board.new.self.caller.1 t.new.scratch c.close_board.new.self.tally
     (c.open_board-counter_board.ensures.counter_board ∙ c.requires.tally) t.ensures.board c.close_board.ensures.tally

@@ -63,7 +63,7 @@ commit_two-requires-clause-may g c =
       cpu_part other.number other.state,
       c.cpu.invariant.0,
       c.source.invariant.0,
-      rw (c.draft-draft.ensures, c.of.ensures, c.hold_calls-calls.ensures.record, c.calls.ensures.value, after, own_at, other_at)
+      rw (c.draft-draft.ensures, c.of.ensures, c.hold_calls-held.ensures.record, c.calls.ensures.value, after, own_at, other_at)
           (pull_moves d n c.args.processor c.args.from c.now-now.result own.state t.new.self other.state t.new.source
           t.new.scratch k t.result apart t.ensures.share),
     )
@@ -71,7 +71,7 @@ commit_two-requires-clause-may g c =
 pub commit_two-requires-clause-reported : goal.commit_two-requires-clause-reported
 commit_two-requires-clause-reported g c =
     let t = c.pull-reply in
-    rw (c.draft-draft.ensures, c.of.ensures, c.hold_calls-calls.ensures.record, c.calls.ensures.value)
+    rw (c.draft-draft.ensures, c.of.ensures, c.hold_calls-held.ensures.record, c.calls.ensures.value)
     (ahead_of (λ x. x.tally) c.open_board-counter_board.result t.new.board c.args.working.now.caller.1
     c.close_board.new.self.caller.1 t.new.scratch c.close_board.new.self.tally
     (c.open_board-counter_board.ensures.counter_board ∙ c.requires.tally) t.ensures.board c.close_board.ensures.tally

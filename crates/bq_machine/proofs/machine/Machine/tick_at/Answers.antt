@@ -34,7 +34,7 @@ commit_one-requires-clause-may g c =
     let t = c.tick-reply in (
       cpu_part own.number own.state,
       c.cpu.invariant.0,
-      rw (c.draft-draft.ensures, c.of_tick.ensures, c.hold_calls-calls.ensures.record, c.calls.ensures.value, same)
+      rw (c.draft-draft.ensures, c.of_tick.ensures, c.hold_calls-held.ensures.record, c.calls.ensures.value, same)
           (tick_moves g.Q.R.Discipline.discipline n c.args.processor c.now-now.result own.state t.new.self
           t.new.scratch k t.result t.ensures.share),
     )
@@ -42,7 +42,7 @@ commit_one-requires-clause-may g c =
 pub commit_one-requires-clause-reported : goal.commit_one-requires-clause-reported
 commit_one-requires-clause-reported g c =
     let t = c.tick-reply in
-    rw (c.draft-draft.ensures, c.of_tick.ensures, c.hold_calls-calls.ensures.record, c.calls.ensures.value)
+    rw (c.draft-draft.ensures, c.of_tick.ensures, c.hold_calls-held.ensures.record, c.calls.ensures.value)
     (ahead_of (λ x. x.tally) c.open_board-counter_board.result t.new.board c.args.working.now.caller.1
     c.close_board.new.self.caller.1 t.new.scratch c.close_board.new.self.tally
     (c.open_board-counter_board.ensures.counter_board ∙ c.requires.tally) t.ensures.board c.close_board.ensures.tally
