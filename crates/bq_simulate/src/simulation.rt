@@ -74,7 +74,7 @@ impl Simulation {
     }
 
     /// What comes due at an instant is done.
-    pub(crate) fn meet<S: Sink>(
+    pub(crate) fn handle_due<S: Sink>(
         &mut self,
         alloc: Global,
         workload: &Workload,

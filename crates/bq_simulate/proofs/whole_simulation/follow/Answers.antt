@@ -5,7 +5,7 @@ use Rattle.bq_simulate.specs.Simulations.{with_seed}
 use Rattle.bq_simulate.proofs.WholeLemmas.{IsNew, followed-of, too-long-of}
 use Rattle.bq_simulate.proofs.OpenWellLemmas.{starts-well}
 use Rattle.bq_simulate.proofs.WellLemmas.{bound-of-endless, err-both, err-by, wants-no-end}
-use Rattle.bq_simulate.proofs.following.follow.Goals as goal
+use Rattle.bq_simulate.proofs.whole_simulation.follow.Goals as goal
 
 pub returns-clause-reported : goal.returns-clause-reported
 returns-clause-reported g c =

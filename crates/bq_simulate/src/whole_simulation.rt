@@ -149,7 +149,7 @@ impl Simulation {
         self.install(alloc, processors, policies, sink)?;
         self.admit(alloc, workload, sink)?;
         let tasks = self.tasks()?;
-        self.go_on(alloc, workload, most_steps(workload), sink)?;
+        self.run_until_end(alloc, workload, most_steps(workload), sink)?;
         Ok(tasks)
     }
 
@@ -165,7 +165,7 @@ impl Simulation {
 
     /// Does what comes due, one thing after another, until nothing does or the sink has enough: each is the first that comes by the
     /// accounts. Nothing comes before what came already, or beyond the duration.
-    fn go_on<S: Sink + Enough>(
+    fn run_until_end<S: Sink + Enough>(
         &mut self,
         alloc: Global,
         workload: &Workload,
@@ -191,7 +191,7 @@ impl Simulation {
                 return Err(SimulateFault::BrokenInvariant);
             }
             last = now;
-            self.meet(alloc, workload, due, now, sink)?;
+            self.handle_due(alloc, workload, due, now, sink)?;
         }
         Err(SimulateFault::Endless)
     }
