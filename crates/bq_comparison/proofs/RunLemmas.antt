@@ -13,7 +13,7 @@ use Rattle.bq_comparison.specs.Faults.{EndsInFault, IsNoRun, IsNoSide, IsNoSumma
 use Rattle.bq_experiment.specs.Limits.{IsLonger}
 use Rattle.bq_workload.specs.Soundness.{first_flaw}
 use Rattle.bq_simulate.specs.Faults.{reported_flaw}
-use Rattle.bq_simulate.specs.GoingWell.{IsCutOff, IsEndless}
+use Rattle.bq_simulate.specs.GoingWell.{IsCutOff, HasTooManySteps}
 use Rattle.bq_simulate.specs.declared.fault.SimulateFault.{SimulateFault}
 use Rattle.bq_simulate.specs.declared.fault.SimulateFault.TheVariants as run_fault
 use Rattle.bq_simulate.specs.Simulations.{Accepted, with_seed}
@@ -72,9 +72,9 @@ IsOther run_fault.OutOfMemory = ⊥
 IsOther run_fault.Enough = ⊥
 IsOther why = ⊤
 
--- what else cuts off a simulation is that it is endless
-endless : (w : Workload) (why : SimulateFault) → IsOther why → IsCutOff w why → IsEndless w why
-endless w why other cut = elim cut [
+-- what else cuts off a simulation is that it has too many steps
+too_many_steps : (w : Workload) (why : SimulateFault) → IsOther why → IsCutOff w why → HasTooManySteps w why
+too_many_steps w why other cut = elim cut [
   | inl out ↦ absurd (subst IsOther out other)
   | inr more ↦ elim more [ inl enough ↦ absurd (subst IsOther enough other) | inr ends ↦ ends ]
 ]
@@ -85,10 +85,10 @@ pub refused_is_no_run : (policies : List Accepted) (w : Workload) (most : ℕ) (
     → (why ≡ run_fault.Enough → IsLonger policies w most)
     → IsNoRun policies w most (fault_of_run why)
 refused_is_no_run policies w most run_fault.OutOfMemory h ends k = tt
-refused_is_no_run policies w most (run_fault.Unsound flaw) h ends k = (h, λ sound. endless w (run_fault.Unsound flaw) tt (ends sound))
-refused_is_no_run policies w most (run_fault.Drive fault) h ends k = (h, λ sound. endless w (run_fault.Drive fault) tt (ends sound))
-refused_is_no_run policies w most run_fault.BrokenInvariant h ends k = (h, λ sound. endless w run_fault.BrokenInvariant tt (ends sound))
-refused_is_no_run policies w most run_fault.Endless h ends k = (h, λ sound. endless w run_fault.Endless tt (ends sound))
+refused_is_no_run policies w most (run_fault.Unsound flaw) h ends k = (h, λ sound. too_many_steps w (run_fault.Unsound flaw) tt (ends sound))
+refused_is_no_run policies w most (run_fault.Drive fault) h ends k = (h, λ sound. too_many_steps w (run_fault.Drive fault) tt (ends sound))
+refused_is_no_run policies w most run_fault.BrokenInvariant h ends k = (h, λ sound. too_many_steps w run_fault.BrokenInvariant tt (ends sound))
+refused_is_no_run policies w most run_fault.TooManySteps h ends k = (h, λ sound. too_many_steps w run_fault.TooManySteps tt (ends sound))
 refused_is_no_run policies w most run_fault.Enough h ends k = k refl
 
 -- where a run with one of the seeds is refused, so are all

@@ -5,7 +5,7 @@ use Rattle.bq_workload.specs.Soundness.{first_flaw}
 use Rattle.bq_workload.specs.declared.workload.Workload.{Workload}
 use Rattle.bq_experiment.specs.Limits.{IsLonger}
 use Rattle.bq_simulate.specs.Faults.{reported_flaw}
-use Rattle.bq_simulate.specs.GoingWell.{IsEndless}
+use Rattle.bq_simulate.specs.GoingWell.{HasTooManySteps}
 use Rattle.bq_simulate.specs.Simulations.{Accepted, with_seed}
 use Rattle.bq_simulate.specs.declared.fault.SimulateFault.{SimulateFault}
 use Rattle.bq_simulate.specs.declared.fault.SimulateFault.TheVariants as run_fault
@@ -22,7 +22,7 @@ fault_of_run why = fault.Run why
 -- the workload is not followed to its end: for its first flaw exactly if it has one, and otherwise only if 64 bits do not count
 -- the bound of its steps
 abbrev pub IsNotFollowed : Workload → SimulateFault → Type 0
-IsNotFollowed w why = (reported_flaw why ≡ first_flaw w) × (first_flaw w ≡ None → IsEndless w why)
+IsNotFollowed w why = (reported_flaw why ≡ first_flaw w) × (first_flaw w ≡ None → HasTooManySteps w why)
 
 -- a run of the workload with these policies does not come to its end: the workload is not followed, or the run is cut off after that many
 -- events, only when there are more; memory may run out whatever the workload is

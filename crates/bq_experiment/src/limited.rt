@@ -55,7 +55,7 @@ impl<S> Limited<S> {
 }
 
 impl<S> Enough for Limited<S> {
-    ghost sated = { λ l. l.is_over };
+    ghost has_enough = { λ l. l.is_over };
 
     fn has_enough(&self) -> bool {
         self.is_over

@@ -161,9 +161,9 @@ fn simulate_into<S: Sink + Enough>(
     sink: &mut S,
 ) -> Result<(), SimulateFault>
     ensures reported { OnOk result (Gets S.takes sink.old sink.new (IsNamed workload.now (IsSimulation policies.now.loaded workload.now))) }
-    ensures wants { OnOk result (S.sated sink.new ≡ false) }
+    ensures wants { OnOk result (S.has_enough sink.new ≡ false) }
     ensures enough { IfErr result (λ e. e ≡ why.Enough → (first_flaw workload.now ≡ None)
-        × HasEnough S.takes S.sated (IsNamed workload.now (IsFollowed true policies.now.loaded workload.now)) sink.old sink.new) }
+        × HasEnough S.takes S.has_enough (IsNamed workload.now (IsFollowed true policies.now.loaded workload.now)) sink.old sink.new) }
     ensures sound { OnOk result (first_flaw workload.now ≡ None) }
     ensures of_images { OnOk result (AreOfTheirImages policies.now) }
     ensures flaw { IfErr result (ReportsNoOther workload.now) }

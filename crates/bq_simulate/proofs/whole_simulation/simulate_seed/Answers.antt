@@ -7,11 +7,11 @@ use Rattle.bq_simulate.proofs.whole_simulation.simulate_seed.Goals as goal
 
 pub returns-then-has_enough-clause-enough : goal.returns-then-has_enough-clause-enough
 returns-then-has_enough-clause-enough g c =
-    let sated = sym c.has_enough.ensures ∙ c.if-has_enough.true in
+    let enough = sym c.has_enough.ensures ∙ c.if-has_enough.true in
     let w = with_seed c.args.workload.now c.args.seed in
     λ is. (
-      sated,
-      subst (λ (b : Bool). Gets g.S.Sink.takes c.args.sink.now c.follow.new.sink (IsFollowed b c.args.policies.now w)) sated
+      enough,
+      subst (λ (b : Bool). Gets g.S.Sink.takes c.args.sink.now c.follow.new.sink (IsFollowed b c.args.policies.now w)) enough
           c.in-Ok.ensures.reported,
     )
 

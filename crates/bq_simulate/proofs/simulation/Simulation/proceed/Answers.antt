@@ -82,14 +82,14 @@ returns-clause-well g c = λ starts.
     let none = ap (λ v. length v.items) c.in_ok-install.ensures.firsts ∙ starts.none in
     c.in_ok-run_until_end.ensures.well (opened-well w _ (c.in_ok-admit.ensures.firsts none) (c.in_ok-admit.ensures.well one))
 
--- a fault for memory is not the fault that there is no end
-pub returns-in_err-install-clause-endless : goal.returns-in_err-install-clause-endless
-returns-in_err-install-clause-endless g c = λ starts.
+-- a fault for memory is not the fault that there are too many steps
+pub returns-in_err-install-clause-too_many_steps : goal.returns-in_err-install-clause-too_many_steps
+returns-in_err-install-clause-too_many_steps g c = λ starts.
     let wants = c.in_err-install.ensures.ends c.args.workload.now starts c.processors-processors.ensures in
     err-by c.from_residual.result c.from_residual.ensures.1 (λ e is ends. absurd (wants-no-end (sym (is ∙ wants) ∙ ends)))
 
-pub returns-in_err-admit-clause-endless : goal.returns-in_err-admit-clause-endless
-returns-in_err-admit-clause-endless g c = λ starts.
+pub returns-in_err-admit-clause-too_many_steps : goal.returns-in_err-admit-clause-too_many_steps
+returns-in_err-admit-clause-too_many_steps g c = λ starts.
     let w = c.args.workload.now in
     let one =
     installed-well g.S.Sink.takes _ _ w c.args.policies.now _ _ _ c.processors-processors.ensures
@@ -99,8 +99,8 @@ returns-in_err-admit-clause-endless g c = λ starts.
     err-by c.from_residual-in_err-admit.result c.from_residual-in_err-admit.ensures.1
     (λ e is ends. absurd (wants-no-end (sym (is ∙ wants) ∙ ends)))
 
-pub returns-in_err-tasks-clause-endless : goal.returns-in_err-tasks-clause-endless
-returns-in_err-tasks-clause-endless g c = λ starts.
+pub returns-in_err-tasks-clause-too_many_steps : goal.returns-in_err-tasks-clause-too_many_steps
+returns-in_err-tasks-clause-too_many_steps g c = λ starts.
     let w = c.args.workload.now in
     let one =
     installed-well g.S.Sink.takes _ _ w c.args.policies.now _ _ _ c.processors-processors.ensures
@@ -109,8 +109,8 @@ returns-in_err-tasks-clause-endless g c = λ starts.
     absurd (c.in_err-tasks.ensures.stray (all.counted ∙ sym (streams-there w _ _ all)))
 
 -- as many things have come due as are counted
-pub returns-in_err-run_until_end-clause-endless : goal.returns-in_err-run_until_end-clause-endless
-returns-in_err-run_until_end-clause-endless g c = λ starts.
+pub returns-in_err-run_until_end-clause-too_many_steps : goal.returns-in_err-run_until_end-clause-too_many_steps
+returns-in_err-run_until_end-clause-too_many_steps g c = λ starts.
     let takes = g.S.Sink.takes in
     let w = c.args.workload.now in
     let kinds = w.tasks.items in
@@ -139,5 +139,5 @@ returns-in_err-run_until_end-clause-endless g c = λ starts.
     let met =
     subst
     (λ (n : ℕ). GoesOnFromBook takes kinds (AreAllMet kinds mid.seed mid.roster.periods n end) c.admit.new.sink mid c.run_until_end.new.sink ended)
-    c.most_steps.ensures (c.in_err-run_until_end.ensures.endless well (sym is ∙ ends)) in
+    c.most_steps.ensures (c.in_err-run_until_end.ensures.too_many_steps well (sym is ∙ ends)) in
     ProceedsBy-join takes policies all kinds (most_steps w) end _ _ _ was mid ended opened met)
