@@ -251,7 +251,7 @@ fn report_stopped(rt: &HostRuntime, fault: &RunFault, failure: Option<Error>) ->
     let _ = eprintln!(rt; "bqsim: {fault}");
     match fault {
         RunFault::Simulation(_) => ExitCode::from(BAD_INPUT),
-        RunFault::Write | RunFault::Events => ExitCode::from(IO_FAILED),
+        RunFault::Write | RunFault::TooManyEvents => ExitCode::from(IO_FAILED),
     }
 }
 
@@ -286,7 +286,7 @@ fn show_figures<T: Threads + Sync>(
         Err(fault) => {
             let _ = eprintln!(rt; "bqsim: {fault}");
             match fault {
-                SeedsFault::Events => Err(ExitCode::from(IO_FAILED)),
+                SeedsFault::TooManyEvents => Err(ExitCode::from(IO_FAILED)),
                 _ => Err(ExitCode::from(BAD_INPUT)),
             }
         }

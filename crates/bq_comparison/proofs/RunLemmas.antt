@@ -97,7 +97,7 @@ refused_all : (policies : List Accepted) (w : Workload) (most count i : ℕ) (wh
     → IsNoSummary policies w most count why
 refused_all policies w most count i (fault.Run why) few h = h
 refused_all policies w most count i fault.Last few h = absurd h
-refused_all policies w most count i fault.Events few h = (i, few, h)
+refused_all policies w most count i fault.TooManyEvents few h = (i, few, h)
 refused_all policies w most count i fault.OutOfMemory few h = tt
 
 -- all runs are refused where one of the results is a fault, or memory runs out

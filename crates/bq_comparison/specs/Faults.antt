@@ -16,7 +16,7 @@ use Rattle.bq_comparison.specs.declared.runs.RunFigures.{RunFigures}
 -- the fault of a run, in the words of a summary
 abbrev pub fault_of_run : SimulateFault → SeedsFault
 fault_of_run run_fault.OutOfMemory = fault.OutOfMemory
-fault_of_run run_fault.Enough = fault.Events
+fault_of_run run_fault.Enough = fault.TooManyEvents
 fault_of_run why = fault.Run why
 
 -- the workload is not followed to its end: for its first flaw exactly if it has one, and otherwise only if 64 bits do not count
@@ -29,7 +29,7 @@ IsNotFollowed w why = (reported_flaw why ≡ first_flaw w) × (first_flaw w ≡ 
 abbrev pub IsNoRun : List Accepted → Workload → ℕ → SeedsFault → Type 0
 IsNoRun policies w most (fault.Run why) = IsNotFollowed w why
 IsNoRun policies w most fault.Last = ⊥
-IsNoRun policies w most fault.Events = IsLonger policies w most
+IsNoRun policies w most fault.TooManyEvents = IsLonger policies w most
 IsNoRun policies w most fault.OutOfMemory = ⊤
 
 -- of this many seeds, from the workload's own on, there is one with which more than this many events come
@@ -40,7 +40,7 @@ HasLonger policies w most count = (i : ℕ) × (i < count) × IsLonger policies 
 abbrev pub IsNoSummary : List Accepted → Workload → ℕ → ℕ → SeedsFault → Type 0
 IsNoSummary policies w most count (fault.Run why) = IsNotFollowed w why
 IsNoSummary policies w most count fault.Last = 2 ^ 64 < w.machine.seed + count
-IsNoSummary policies w most count fault.Events = HasLonger policies w most count
+IsNoSummary policies w most count fault.TooManyEvents = HasLonger policies w most count
 IsNoSummary policies w most count fault.OutOfMemory = ⊤
 
 -- there is no summary with these policies, or with the others, if there are others

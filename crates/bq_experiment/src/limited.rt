@@ -19,14 +19,14 @@ pub struct Limited<S> {
 
 impl<S> Limited<S> {
     /// The sink may get this many machine events.
-    pub fn new(sink: S, most: u64) -> Limited<S>
+    pub fn new(sink: S, event_limit: u64) -> Limited<S>
         ensures sink { result.sink ≡ sink }
-        ensures left { result.left ≡ most }
+        ensures left { result.left ≡ event_limit }
         ensures over { result.is_over ≡ false }
     {
         Limited {
             sink,
-            left: most,
+            left: event_limit,
             is_over: false,
         }
     }
