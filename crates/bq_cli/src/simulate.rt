@@ -18,7 +18,7 @@ use bq_console::{
     report_unwritten, word, written,
 };
 use bq_experiment::{
-    AskedFault, FinishedRun, HookWords, MachineWords, Policies, RunFault, ShownAs, Streams,
+    AskedFault, FinishedRun, HookWords, MachineWords, Policies, RunFault, RunStreams, ShownAs,
     StudyWords, asked_changes, run_as,
 };
 use bq_hooks::Hook;
@@ -218,7 +218,7 @@ fn show_run(
     most: u64,
 ) -> Result<ExitCode, ExitCode> {
     let progress = ProgressLine::new(rt);
-    let streams = Streams {
+    let streams = RunStreams {
         output: ErrorKeeper::new(ErasingWriter::new(rt.stdout(), &progress)),
         errors: ErasingWriter::new(rt.stderr(), &progress),
         progress: &progress,

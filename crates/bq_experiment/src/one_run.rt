@@ -35,7 +35,7 @@ use std::io::Write;
 
 /// The streams to which a run is written: its text, its notes, and its progress.
 #[derive(Drop)]
-pub struct Streams<'a, W, E> {
+pub struct RunStreams<'a, W, E> {
     pub output: W,
     pub errors: E,
     pub progress: &'a ProgressLine<'a>,
@@ -60,7 +60,7 @@ pub fn run_as<W: Write + Drop, E: Write + Drop>(
     policies: &Policies,
     shown: ShownAs,
     event_limit: u64,
-    streams: Streams<'_, W, E>,
+    streams: RunStreams<'_, W, E>,
 ) -> FinishedRun<W>
     ensures written { IfOk result.outcome (λ notes. IsWritten shown workload.now policies.now event_limit
         (W.contents streams.entry.output) (W.contents (counted_inner result.output)) (string_bytes notes)) }
@@ -86,14 +86,14 @@ fn sink_of_run<'a, S, W, E>(
     workload: &Workload,
     sink: S,
     event_limit: u64,
-    streams: Streams<'a, W, E>,
+    streams: RunStreams<'a, W, E>,
 ) -> RunSink<'a, S, W, E>
     ensures sink { result.sink.sink ≡ sink }
     ensures output { counted_inner result.sink.output ≡ streams.entry.output }
     ensures left { result.left ≡ event_limit }
     ensures over { result.is_over ≡ false }
 {
-    let Streams {
+    let RunStreams {
         output,
         errors,
         progress,
@@ -108,7 +108,7 @@ fn as_trace<W: Write + Drop, E: Write + Drop>(
     workload: &Workload,
     policies: &Policies,
     event_limit: u64,
-    streams: Streams<'_, W, E>,
+    streams: RunStreams<'_, W, E>,
 ) -> FinishedRun<W>
     ensures written { IfOk result.outcome (λ notes. IsWritten shown_as.Trace workload.now policies.now event_limit
         (W.contents streams.entry.output) (W.contents (counted_inner result.output)) (string_bytes notes)) }
@@ -202,7 +202,7 @@ fn as_timeline<W: Write + Drop, E: Write + Drop>(
     policies: &Policies,
     settings: Settings,
     event_limit: u64,
-    streams: Streams<'_, W, E>,
+    streams: RunStreams<'_, W, E>,
 ) -> FinishedRun<W>
     ensures written { IfOk result.outcome (λ notes. AreNotesOf policies.now.loaded workload.now event_limit (string_bytes notes)) }
     ensures writes { OnOk result.outcome (failures_of result.output ≡ 0) }
