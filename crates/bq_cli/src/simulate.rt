@@ -215,7 +215,7 @@ fn show_run(
     workload: &Workload,
     policies: &Policies,
     shown: ShownAs,
-    most: u64,
+    event_limit: u64,
 ) -> Result<ExitCode, ExitCode> {
     let progress = ProgressLine::new(rt);
     let streams = RunStreams {
@@ -228,7 +228,7 @@ fn show_run(
         workload,
         policies,
         shown,
-        most,
+        event_limit,
         streams,
     );
     progress.erase();
@@ -267,12 +267,12 @@ fn show_figures<T: Threads + Sync>(
     ours: &Policies,
     others: Option<&Policies>,
     mut asked: Comparing,
-    most: u64,
+    event_limit: u64,
 ) -> Result<ExitCode, ExitCode> {
     let Ok(notes) = asked.add_called(rt.alloc(), workload) else {
         return Err(report_out_of_memory(rt));
     };
-    match tabled(rt, threads, workload, ours, others, &asked, most) {
+    match tabled(rt, threads, workload, ours, others, &asked, event_limit) {
         Ok(text) => {
             let notes = Lines(notes.as_str());
             let _ = eprint!(rt; "{notes}");
@@ -301,13 +301,13 @@ fn tabled<T: Threads + Sync>(
     ours: &Policies,
     others: Option<&Policies>,
     asked: &Comparing,
-    most: u64,
+    event_limit: u64,
 ) -> Result<String, SeedsFault> {
     let alloc = rt.alloc();
     let progress = ProgressLine::new(rt);
     let plan = RunPlan {
         seeds: asked.seeds,
-        most,
+        event_limit,
         progress: &progress,
     };
     let sides = compare(threads, alloc, workload, ours, others, &plan);

@@ -27,25 +27,25 @@ IsNotFollowed w why = (reported_flaw why ≡ first_flaw w) × (first_flaw w ≡ 
 -- a run of the workload with these policies does not come to its end: the workload is not followed, or the run is cut off after that many
 -- events, only when there are more; memory may run out whatever the workload is
 abbrev pub IsNoRun : List Accepted → Workload → ℕ → SeedsFault → Type 0
-IsNoRun policies w most (fault.Run why) = IsNotFollowed w why
-IsNoRun policies w most fault.Last = ⊥
-IsNoRun policies w most fault.TooManyEvents = IsLonger policies w most
-IsNoRun policies w most fault.OutOfMemory = ⊤
+IsNoRun policies w event_limit (fault.Run why) = IsNotFollowed w why
+IsNoRun policies w event_limit fault.Last = ⊥
+IsNoRun policies w event_limit fault.TooManyEvents = IsLonger policies w event_limit
+IsNoRun policies w event_limit fault.OutOfMemory = ⊤
 
 -- of this many seeds, from the workload's own on, there is one with which more than this many events come
 abbrev pub HasLonger : List Accepted → Workload → ℕ → ℕ → Type 0
-HasLonger policies w most count = (i : ℕ) × (i < count) × IsLonger policies (with_seed w (w.machine.seed + i)) most
+HasLonger policies w event_limit count = (i : ℕ) × (i < count) × IsLonger policies (with_seed w (w.machine.seed + i)) event_limit
 
 -- this many runs are refused for what one of them is; or the last seed is not below 2^64
 abbrev pub IsNoSummary : List Accepted → Workload → ℕ → ℕ → SeedsFault → Type 0
-IsNoSummary policies w most count (fault.Run why) = IsNotFollowed w why
-IsNoSummary policies w most count fault.Last = 2 ^ 64 < w.machine.seed + count
-IsNoSummary policies w most count fault.TooManyEvents = HasLonger policies w most count
-IsNoSummary policies w most count fault.OutOfMemory = ⊤
+IsNoSummary policies w event_limit count (fault.Run why) = IsNotFollowed w why
+IsNoSummary policies w event_limit count fault.Last = 2 ^ 64 < w.machine.seed + count
+IsNoSummary policies w event_limit count fault.TooManyEvents = HasLonger policies w event_limit count
+IsNoSummary policies w event_limit count fault.OutOfMemory = ⊤
 
 -- there is no summary with these policies, or with the others, if there are others
 abbrev pub IsNoSide : List Accepted → Option (List Accepted) → Workload → ℕ → ℕ → SeedsFault → Type 0
-IsNoSide policies others w most count why = IsNoSummary policies w most count why ⊎ IsSomeAnd others (λ theirs. IsNoSummary theirs w most count why)
+IsNoSide policies others w event_limit count why = IsNoSummary policies w event_limit count why ⊎ IsSomeAnd others (λ theirs. IsNoSummary theirs w event_limit count why)
 
 -- one of them ended in that fault
 abbrev pub EndsInFault : List (Result RunFigures SeedsFault) → SeedsFault → Type 0
