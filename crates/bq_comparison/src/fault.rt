@@ -8,7 +8,7 @@ use thiserror::Error;
 /// Why there is no summary.
 #[derive(Debug, Drop, Error)]
 pub enum SeedsFault {
-    /// A run does not come to its end.
+    /// The simulation of a run did not come to its end.
     #[error("{0}")]
     Run(SimulateFault),
     /// The last seed would be 2^64 or more.

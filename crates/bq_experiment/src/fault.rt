@@ -7,7 +7,7 @@ use thiserror::Error;
 /// Why a run does not come to its end.
 #[derive(Debug, Drop, Error)]
 pub enum RunFault {
-    /// The simulation does not.
+    /// The simulation did not come to its end.
     #[error("{0}")]
     Simulation(SimulateFault),
     /// A write failed.

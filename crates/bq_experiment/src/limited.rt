@@ -13,12 +13,12 @@ pub struct Limited<S> {
     pub sink: S,
     /// How many more machine events it may pass on.
     pub left: u64,
-    /// Whether one event more came.
+    /// Whether a machine event came when it could pass on none.
     pub is_over: bool,
 }
 
 impl<S> Limited<S> {
-    /// The sink may get this many machine events.
+    /// A sink that passes on at most this many machine events.
     pub fn new(sink: S, event_limit: u64) -> Limited<S>
         ensures sink { result.sink ≡ sink }
         ensures left { result.left ≡ event_limit }

@@ -102,7 +102,7 @@ fn sink_of_run<'a, S, W, E>(
     Limited::new(Passing::new(sink, output, errors, progress), event_limit)
 }
 
-/// Writes its events as a trace, after comments that name the tasks.
+/// Writes the events of a run as a trace, after comments that name the tasks.
 fn as_trace<W: Write + Drop, E: Write + Drop>(
     alloc: Global,
     workload: &Workload,
@@ -195,7 +195,7 @@ fn write_rest<S: Texts, W: Write, E: Write>(
     RunFault::Simulation(fault)
 }
 
-/// Shows its schedule by these settings.
+/// Shows the schedule of a run by these settings.
 fn as_timeline<W: Write + Drop, E: Write + Drop>(
     alloc: Global,
     workload: &Workload,

@@ -48,7 +48,7 @@ returns-then-not-is_over-clause-ends g c = λ starts.
     let none = c.in_ok-tasks.ensures.nothing_due (sym c.has_enough.ensures ∙ c.if-has_enough.false) gone.well.agreed in
     let left = subst (λ (p : Periods). NothingComes p.end (accounts_of ended.roster)) gone.well.periods none in
     let over =
-    c.is_over.ensures.none (sound_times w gone.well.sound).duration gone.well.agreed.homes left
+    c.is_over.ensures.nothing_due (sound_times w gone.well.sound).duration gone.well.agreed.homes left
     ∙ keep_phases gone.now (accounts_of ended.roster) gone.well.kept.on_time in
     absurd (true≢false (sym over ∙ c.if-not-is_over.true))
 
