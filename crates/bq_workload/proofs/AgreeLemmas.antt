@@ -65,7 +65,7 @@ changed_at-read {A} {B} f v same xs n k = elim (cases_eq k n) [
   ]
 ]
 
--- what comes when it came, and whose rank is as it was
+-- what comes when it came, and of whose rank the event queue says what it said
 pub agrees_if_kept : (end : ℕ) (a b : Accounts) (x y : List ℕ) (due : Due)
     → comes_at end b due ≡ comes_at end a due → (IsDue due → at_rank y (due_rank due) ≡ at_rank x (due_rank due))
     → AgreesAt end a x due
