@@ -18,7 +18,7 @@ use bq_console::{
     report_unwritten, word, written,
 };
 use bq_experiment::{
-    AskedFault, FinishedRun, HookWords, MachineWords, Policies, RunFault, ShownAs, Streams,
+    AskedFault, FinishedRun, HookWords, MachineWords, Policies, RunFault, RunStreams, ShownAs,
     StudyWords, asked_changes, run_as,
 };
 use bq_hooks::Hook;
@@ -215,10 +215,10 @@ fn show_run(
     workload: &Workload,
     policies: &Policies,
     shown: ShownAs,
-    most: u64,
+    event_limit: u64,
 ) -> Result<ExitCode, ExitCode> {
     let progress = ProgressLine::new(rt);
-    let streams = Streams {
+    let streams = RunStreams {
         output: ErrorKeeper::new(ErasingWriter::new(rt.stdout(), &progress)),
         errors: ErasingWriter::new(rt.stderr(), &progress),
         progress: &progress,
@@ -228,7 +228,7 @@ fn show_run(
         workload,
         policies,
         shown,
-        most,
+        event_limit,
         streams,
     );
     progress.erase();
@@ -251,7 +251,7 @@ fn report_stopped(rt: &HostRuntime, fault: &RunFault, failure: Option<Error>) ->
     let _ = eprintln!(rt; "bqsim: {fault}");
     match fault {
         RunFault::Simulation(_) => ExitCode::from(BAD_INPUT),
-        RunFault::Write | RunFault::Events => ExitCode::from(IO_FAILED),
+        RunFault::Write | RunFault::TooManyEvents => ExitCode::from(IO_FAILED),
     }
 }
 
@@ -267,12 +267,12 @@ fn show_figures<T: Threads + Sync>(
     ours: &Policies,
     others: Option<&Policies>,
     mut asked: Comparing,
-    most: u64,
+    event_limit: u64,
 ) -> Result<ExitCode, ExitCode> {
     let Ok(notes) = asked.add_called(rt.alloc(), workload) else {
         return Err(report_out_of_memory(rt));
     };
-    match tabled(rt, threads, workload, ours, others, &asked, most) {
+    match tabled(rt, threads, workload, ours, others, &asked, event_limit) {
         Ok(text) => {
             let notes = Lines(notes.as_str());
             let _ = eprint!(rt; "{notes}");
@@ -286,7 +286,7 @@ fn show_figures<T: Threads + Sync>(
         Err(fault) => {
             let _ = eprintln!(rt; "bqsim: {fault}");
             match fault {
-                SeedsFault::Events => Err(ExitCode::from(IO_FAILED)),
+                SeedsFault::TooManyEvents => Err(ExitCode::from(IO_FAILED)),
                 _ => Err(ExitCode::from(BAD_INPUT)),
             }
         }
@@ -301,13 +301,13 @@ fn tabled<T: Threads + Sync>(
     ours: &Policies,
     others: Option<&Policies>,
     asked: &Comparing,
-    most: u64,
+    event_limit: u64,
 ) -> Result<String, SeedsFault> {
     let alloc = rt.alloc();
     let progress = ProgressLine::new(rt);
     let plan = RunPlan {
         seeds: asked.seeds,
-        most,
+        event_limit,
         progress: &progress,
     };
     let sides = compare(threads, alloc, workload, ours, others, &plan);

@@ -72,9 +72,9 @@ stays s ((n, CounterRead i value) ∷ more) = stays s more
 stays s ((n, Bad short_line) ∷ more) = stays s more
 
 -- a schedule is gathered of each simulation, whose first event is that of its machine
-pub schedule_gathered : (policies : List Accepted) (w : Workload) (most : ℕ) (schedule : Option Figures) (tasks : Tasks)
-    → IsGathered policies w most schedule tasks → IsSome schedule
-schedule_gathered policies w most schedule tasks g =
+pub schedule_gathered : (policies : List Accepted) (w : Workload) (event_limit : ℕ) (schedule : Option Figures) (tasks : Tasks)
+    → IsGathered policies w event_limit schedule tasks → IsSome schedule
+schedule_gathered policies w event_limit schedule tasks g =
     let run = g.simulation in
     let reported : g.reported ≡ (1, Opened w.machine.discipline w.machine.size) ∷ run.more =
     run.whole ∙ ap (λ (l : Reported). l ++ run.more) run.starts.reports in

@@ -31,9 +31,9 @@ reported_latencies task s [] = []
 reported_latencies task s ((n, traced) ∷ more) = latency_in task (reported_start traced s) ++ reported_latencies task (watched s traced) more
 
 -- the schedule and each task's latencies of a simulation of that workload with these policies, of at most this many events
-pub record IsGathered (policies : List Accepted) (w : Workload) (most : ℕ) (schedule : Option Figures) (tasks : Tasks) : Type 0 where
+pub record IsGathered (policies : List Accepted) (w : Workload) (event_limit : ℕ) (schedule : Option Figures) (tasks : Tasks) : Type 0 where
   pub reported : Reported
   pub simulation : IsSimulation policies w reported
-  pub few : events_in reported ≤ most
+  pub few : events_in reported ≤ event_limit
   pub schedule_is : schedule ≡ schedule_after None reported
   pub latencies_are : (task : ℕ) → latencies_of tasks task ≡ reported_latencies task None reported

@@ -18,18 +18,18 @@ abbrev pub size_of_machine : Workload → MachineSize
 size_of_machine w = record { tasks = min (sum_by (λ kind. kind.count) w.tasks.items) 65535; processors = processors_in w.machine.size }
 
 -- what this many runs with these policies say of each figure, and what they and our runs say of its difference
-pub record IsOtherSide (policies : List Accepted) (w : Workload) (most seeds : ℕ) (figures : List Figure) (ours : List RunFigures) (side : OtherSide) : Type 0 where
+pub record IsOtherSide (policies : List Accepted) (w : Workload) (event_limit seeds : ℕ) (figures : List Figure) (ours : List RunFigures) (side : OtherSide) : Type 0 where
   pub runs : List RunFigures
-  pub rows : IsSeedsSummary policies w most seeds figures runs side.rows.items
+  pub rows : IsSeedsSummary policies w event_limit seeds figures runs side.rows.items
   pub paired : ArePairedRows ours runs (length figures) side.paired.items
 
 -- there is another side exactly when there are other policies, and it tells of this many runs with these
 abbrev pub AreTheirs : Option (List Accepted) → Workload → ℕ → ℕ → List RunFigures → Option OtherSide → Type 0
-AreTheirs None w most seeds ours side = side ≡ None
-AreTheirs (Some others) w most seeds ours side = IsSomeAnd side (IsOtherSide others w most seeds (figures_of_report (size_of_machine w)) ours)
+AreTheirs None w event_limit seeds ours side = side ≡ None
+AreTheirs (Some others) w event_limit seeds ours side = IsSomeAnd side (IsOtherSide others w event_limit seeds (figures_of_report (size_of_machine w)) ours)
 
 -- each side tells of this many runs with its policies, each of at most that many events, and of all figures of the report
-pub record IsComparison (policies : List Accepted) (others : Option (List Accepted)) (w : Workload) (most seeds : ℕ) (sides : Sides) : Type 0 where
+pub record IsComparison (policies : List Accepted) (others : Option (List Accepted)) (w : Workload) (event_limit seeds : ℕ) (sides : Sides) : Type 0 where
   pub runs : List RunFigures
-  pub ours : IsSeedsSummary policies w most seeds (figures_of_report (size_of_machine w)) runs sides.ours.items
-  pub theirs : AreTheirs others w most seeds runs sides.theirs
+  pub ours : IsSeedsSummary policies w event_limit seeds (figures_of_report (size_of_machine w)) runs sides.ours.items
+  pub theirs : AreTheirs others w event_limit seeds runs sides.theirs

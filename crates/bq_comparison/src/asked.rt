@@ -14,7 +14,7 @@ use bq_workload::Workload;
 use std::alloc::{AllocError, Global};
 use thiserror::Error;
 
-/// The most seeds.
+/// The most seeds that may be asked for.
 pub const MOST_SEEDS: u64 = 1000;
 
 /// The form in which the figures are written.

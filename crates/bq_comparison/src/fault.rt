@@ -8,15 +8,15 @@ use thiserror::Error;
 /// Why there is no summary.
 #[derive(Debug, Drop, Error)]
 pub enum SeedsFault {
-    /// A run does not come to its end.
+    /// The simulation of a run did not come to its end.
     #[error("{0}")]
     Run(SimulateFault),
     /// The last seed would be 2^64 or more.
     #[error("--seeds: the last seed is not below 2^64")]
     Last,
     /// A run has more events than it may have.
-    #[error("{run}", run = RunFault::Events)]
-    Events,
+    #[error("{run}", run = RunFault::TooManyEvents)]
+    TooManyEvents,
     #[error("out of memory")]
     OutOfMemory,
 }
@@ -30,7 +30,7 @@ impl From<SimulateFault> for SeedsFault {
     fn from(fault: SimulateFault) -> SeedsFault {
         match fault {
             SimulateFault::OutOfMemory => SeedsFault::OutOfMemory,
-            SimulateFault::Enough => SeedsFault::Events,
+            SimulateFault::Enough => SeedsFault::TooManyEvents,
             fault => SeedsFault::Run(fault),
         }
     }

@@ -27,7 +27,7 @@ pub struct Gatherer {
 }
 
 impl Gatherer {
-    /// Nothing has come.
+    /// A gatherer to which nothing has come.
     pub fn new(alloc: Global) -> Gatherer
         ensures schedule { result.schedule ≡ None }
         ensures latencies { (task : ℕ) → latencies_of result.latencies task ≡ [] }
@@ -77,14 +77,14 @@ pub(crate) fn gather(
     workload: &Workload,
     seed: u64,
     policies: &[Policy],
-    most: u64,
+    event_limit: u64,
 ) -> Result<Gatherer, SeedsFault>
-    ensures gathered { IfOk result (λ g. IsGathered policies.now (with_seed workload.now seed) most g.schedule g.latencies) }
+    ensures gathered { IfOk result (λ g. IsGathered policies.now (with_seed workload.now seed) event_limit g.schedule g.latencies) }
     ensures sound { IfOk result (λ _. first_flaw workload.now ≡ None) }
-    ensures fault { IfErr result (IsNoRun policies.now (with_seed workload.now seed) most) }
+    ensures fault { IfErr result (IsNoRun policies.now (with_seed workload.now seed) event_limit) }
 {
     let gatherer = Gatherer::new(alloc);
-    let mut limited = Limited::new(gatherer, most);
+    let mut limited = Limited::new(gatherer, event_limit);
     match simulate_seed(alloc, workload, seed, policies, &mut limited) {
         Ok(_) => Ok(limited.sink),
         Err(fault) => Err(SeedsFault::from(fault)),

@@ -30,7 +30,7 @@ pub enum LatencyFigure {
     P95,
     /// What 99 percent of them do not exceed.
     P99,
-    /// The greatest.
+    /// The greatest of them.
     Greatest,
 }
 

@@ -35,7 +35,7 @@ pub struct Experiment<'a> {
     /// The policies at all processors.
     pub policies: &'a [Policy],
     /// The most events of a run.
-    pub most: u64,
+    pub event_limit: u64,
     /// What is reported of each run.
     pub figures: &'a [Figure],
 }
@@ -65,8 +65,8 @@ pub fn summary<T: Threads + Sync>(
     count: u16,
     shown: &RunsShown<'_>,
 ) -> Result<SeedsSummary, SeedsFault>
-    ensures rows { IfOk result (λ s. IsSeedsSummary experiment.now.policies.now experiment.now.workload.now experiment.now.most count experiment.now.figures.now s.runs.items s.rows.items) }
-    ensures fault { IfErr result (IsNoSummary experiment.now.policies.now experiment.now.workload.now experiment.now.most count) }
+    ensures rows { IfOk result (λ s. IsSeedsSummary experiment.now.policies.now experiment.now.workload.now experiment.now.event_limit count experiment.now.figures.now s.runs.items s.rows.items) }
+    ensures fault { IfErr result (IsNoSummary experiment.now.policies.now experiment.now.workload.now experiment.now.event_limit count) }
 {
     let runs = runs(threads, alloc, experiment, count, shown)?;
     let rows = rows(alloc, experiment.figures, runs.as_slice())?;
@@ -81,9 +81,9 @@ fn runs<T: Threads + Sync>(
     count: u16,
     shown: &RunsShown<'_>,
 ) -> Result<Vec<RunFigures>, SeedsFault>
-    ensures runs { IfOk result (λ runs. AreFirstRuns experiment.now.policies.now experiment.now.workload.now experiment.now.most experiment.now.figures.now runs.items) }
+    ensures runs { IfOk result (λ runs. AreFirstRuns experiment.now.policies.now experiment.now.workload.now experiment.now.event_limit experiment.now.figures.now runs.items) }
     ensures count { IfOk result (λ runs. vec_len runs ≡ count) }
-    ensures fault { IfErr result (IsNoSummary experiment.now.policies.now experiment.now.workload.now experiment.now.most count) }
+    ensures fault { IfErr result (IsNoSummary experiment.now.policies.now experiment.now.workload.now experiment.now.event_limit count) }
 {
     let first = experiment.workload.machine.seed;
     let others = u64::from(count).saturating_sub(1);
@@ -135,7 +135,7 @@ fn at_once<T: Threads + Sync>(
     count: usize,
 ) -> Result<Results, AllocError>
     requires { first + count ≤ 2 ^ 64 }
-    ensures results { IfOk result (λ results. AreResults experiment.now.policies.now experiment.now.workload.now experiment.now.most experiment.now.figures.now first results.items) }
+    ensures results { IfOk result (λ results. AreResults experiment.now.policies.now experiment.now.workload.now experiment.now.event_limit experiment.now.figures.now first results.items) }
     ensures count { IfOk result (λ results. vec_len results ≡ count) }
 {
     map_indices(
@@ -153,8 +153,8 @@ fn nth_run(
     first: u64,
     number: usize,
 ) -> Result<RunFigures, SeedsFault>
-    ensures run { IfOk result (IsWorkloadRun experiment.now.policies.now (with_seed experiment.now.workload.now (first + number)) experiment.now.most experiment.now.figures.now) }
-    ensures fault { first + number < 2 ^ 64 → IfErr result (IsNoRun experiment.now.policies.now (with_seed experiment.now.workload.now (first + number)) experiment.now.most) }
+    ensures run { IfOk result (IsWorkloadRun experiment.now.policies.now (with_seed experiment.now.workload.now (first + number)) experiment.now.event_limit experiment.now.figures.now) }
+    ensures fault { first + number < 2 ^ 64 → IfErr result (IsNoRun experiment.now.policies.now (with_seed experiment.now.workload.now (first + number)) experiment.now.event_limit) }
 {
     let seed = first
         .checked_add(number as u64)
@@ -175,16 +175,16 @@ fn add_all(runs: &mut Vec<RunFigures>, results: Results) -> Result<(), SeedsFaul
 
 /// One run, with this seed in place of the workload's own.
 fn run(alloc: Global, experiment: &Experiment<'_>, seed: u64) -> Result<RunFigures, SeedsFault>
-    ensures run { IfOk result (IsWorkloadRun experiment.now.policies.now (with_seed experiment.now.workload.now seed) experiment.now.most experiment.now.figures.now) }
-    ensures fault { IfErr result (IsNoRun experiment.now.policies.now (with_seed experiment.now.workload.now seed) experiment.now.most) }
+    ensures run { IfOk result (IsWorkloadRun experiment.now.policies.now (with_seed experiment.now.workload.now seed) experiment.now.event_limit experiment.now.figures.now) }
+    ensures fault { IfErr result (IsNoRun experiment.now.policies.now (with_seed experiment.now.workload.now seed) experiment.now.event_limit) }
 {
     let Experiment {
         workload,
         policies,
-        most,
+        event_limit,
         figures,
     } = *experiment;
-    let mut gathered = gather(alloc, workload, seed, policies, most)?;
+    let mut gathered = gather(alloc, workload, seed, policies, event_limit)?;
     let events = gathered.events;
     match &gathered.schedule {
         Some(schedule) => Ok(run_of(alloc, schedule, &mut gathered.latencies, events, figures)?),

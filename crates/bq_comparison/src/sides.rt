@@ -34,7 +34,7 @@ pub struct RunPlan<'a> {
     /// How many seeds there are.
     pub seeds: u16,
     /// The most events of a run.
-    pub most: u64,
+    pub event_limit: u64,
     pub progress: &'a ProgressLine<'a>,
 }
 
@@ -51,14 +51,14 @@ pub fn compare<T: Threads + Sync>(
     others: Option<&Policies>,
     plan: &RunPlan<'_>,
 ) -> Result<Sides, SeedsFault>
-    ensures sides { IfOk result (IsComparison policies.now.loaded (option_map (λ p. p.now.loaded) others.entry) workload.now plan.now.most plan.now.seeds) }
-    ensures fault { IfErr result (IsNoSide policies.now.loaded (option_map (λ p. p.now.loaded) others.entry) workload.now plan.now.most plan.now.seeds) }
+    ensures sides { IfOk result (IsComparison policies.now.loaded (option_map (λ p. p.now.loaded) others.entry) workload.now plan.now.event_limit plan.now.seeds) }
+    ensures fault { IfErr result (IsNoSide policies.now.loaded (option_map (λ p. p.now.loaded) others.entry) workload.now plan.now.event_limit plan.now.seeds) }
 {
     let figures = all_figures(alloc, size_of_machine(workload))?;
     let ours = Experiment {
         workload,
         policies: policies.loaded(),
-        most: plan.most,
+        event_limit: plan.event_limit,
         figures: figures.as_slice(),
     };
     let seeds = plan.seeds;
@@ -92,8 +92,8 @@ fn other_side<T: Threads + Sync>(
     ours: &[RunFigures],
 ) -> Result<OtherSide, SeedsFault>
     requires { length ours.now ≡ count }
-    ensures side { IfOk result (IsOtherSide experiment.now.policies.now experiment.now.workload.now experiment.now.most count experiment.now.figures.now ours.now) }
-    ensures fault { IfErr result (IsNoSummary experiment.now.policies.now experiment.now.workload.now experiment.now.most count) }
+    ensures side { IfOk result (IsOtherSide experiment.now.policies.now experiment.now.workload.now experiment.now.event_limit count experiment.now.figures.now ours.now) }
+    ensures fault { IfErr result (IsNoSummary experiment.now.policies.now experiment.now.workload.now experiment.now.event_limit count) }
 {
     let SeedsSummary { runs, rows } = summary(threads, alloc, experiment, count, shown)?;
     let paired = paired_rows(alloc, experiment.figures.len(), ours, runs.as_slice())?;

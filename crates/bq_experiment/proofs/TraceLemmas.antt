@@ -31,12 +31,12 @@ events_skipped (line ∷ lines) = let rest = events_skipped lines in omega (arit
 
 -- comments that name the tasks, and then a simulation whose policies are those of the images, are written as a trace
 pub trace_written : (first last : TraceWriter) (was now final : Option (List ℕ)) (w : Workload) (policies : List Accepted)
-    (images : ByHook) (reported : Reported) (most left : ℕ)
+    (images : ByHook) (reported : Reported) (event_limit left : ℕ)
     → string_bytes first.text ≡ [] → image_at first.images ≡ images → AreOfImages images policies
     → first_flaw w ≡ None → IsNamed w (IsSimulation policies w) reported → Grows first was reported last now
-    → Appends now final (string_bytes last.text) → most ≡ events_in reported + left
-    → WritesTrace w policies images most was final
-trace_written first last was now final w policies images reported most left empty same of sound named g rest limit =
+    → Appends now final (string_bytes last.text) → event_limit ≡ events_in reported + left
+    → WritesTrace w policies images event_limit was final
+trace_written first last was now final w policies images reported event_limit left empty same of sound named g rest limit =
     let comments = map skipped (comments_of w) in
     let lines : reported_lines images reported ≡ comments_of w ++ reported_lines images named.more =
     ap (reported_lines images) named.whole ∙ reported_lines-append images comments named.more

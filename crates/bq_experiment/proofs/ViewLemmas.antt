@@ -90,14 +90,14 @@ pub IsStopped-by : (P : SimulateFault → Type 0) (why : SimulateFault) (e : Run
     → P why → IsRunStopped (λ (reported : SimulateFault). reported ≡ why) e failures → IsRunStopped P e failures
 IsStopped-by P why (fault.Simulation reported) failures h k = (subst P (sym k.0) h, k.1)
 IsStopped-by P why fault.Write failures h k = k
-IsStopped-by P why fault.Events failures h k = (subst P (sym k.0) h, k.1)
+IsStopped-by P why fault.TooManyEvents failures h k = (subst P (sym k.0) h, k.1)
 
 -- a viewer that watched a simulation has viewed it
-pub views_simulation : (old new : Viewer) (policies : List Accepted) (w : Workload) (reported : Reported) (most left : ℕ)
+pub views_simulation : (old new : Viewer) (policies : List Accepted) (w : Workload) (reported : Reported) (event_limit left : ℕ)
     → old.schedule ≡ None → old.troubles ≡ 0 → first_flaw w ≡ None → TakesAll Watched old reported new
-    → IsSimulation policies w reported → most ≡ events_in reported + left
-    → IsViewed policies w most new
-views_simulation old new policies w reported most left empty zero sound taken simulation limit =
+    → IsSimulation policies w reported → event_limit ≡ events_in reported + left
+    → IsViewed policies w event_limit new
+views_simulation old new policies w reported event_limit left empty zero sound taken simulation limit =
     let all = watched_all old new reported taken in
     record {
       reported = reported;

@@ -24,8 +24,8 @@ pub record PassesWithin {S : Type 0} (takes : S → ℕ → TraceEvent → S →
   pub nothing : new.is_over ≡ true → new.sink ≡ old.sink
 
 -- The workload has no flaw, and a simulation of it with these policies has more events than that, or its beginning has.
-pub record IsLonger (policies : List Accepted) (w : Workload) (most : ℕ) : Type 0 where
+pub record IsLonger (policies : List Accepted) (w : Workload) (event_limit : ℕ) : Type 0 where
   pub reported : Reported
   pub sound : first_flaw w ≡ None
   pub followed : IsFollowed true policies w reported
-  pub many : most < events_in reported
+  pub many : event_limit < events_in reported

@@ -37,17 +37,17 @@ pub record IsTrace (w : Workload) (policies : List Accepted) (images : ByHook) (
   pub whole : text ≡ with_feeds (comments_of w ++ reported_lines images reported)
 
 -- The writer got the whole text of a trace of at most this many events, beyond what it had.
-pub record WritesTrace (w : Workload) (policies : List Accepted) (images : ByHook) (most : ℕ) (old new : Option (List ℕ)) : Type 0 where
+pub record WritesTrace (w : Workload) (policies : List Accepted) (images : ByHook) (event_limit : ℕ) (old new : Option (List ℕ)) : Type 0 where
   pub text : List ℕ
   pub trace : IsTrace w policies images text
-  pub few : events_in trace.reported ≤ most
+  pub few : events_in trace.reported ≤ event_limit
   pub added : Appends old new text
 
 -- What is written of a workload that is run with these policies. As a trace, it is the whole text, and no notes. In another
 -- form, it is notes that end with a viewer's last notes on a simulation; the crate that makes the form promises its text.
 abbrev pub IsWritten : ShownAs → Workload → Policies → ℕ → Option (List ℕ) → Option (List ℕ) → List ℕ → Type 0
-IsWritten Trace w policies most old new notes = WritesTrace w policies.loaded (image_for policies.images) most old new × (notes ≡ [])
-IsWritten (Timeline settings) w policies most old new notes = AreNotesOf policies.loaded w most notes
+IsWritten Trace w policies event_limit old new notes = WritesTrace w policies.loaded (image_for policies.images) event_limit old new × (notes ≡ [])
+IsWritten (Timeline settings) w policies event_limit old new notes = AreNotesOf policies.loaded w event_limit notes
 
 -- A replay of the text gets the answers that the simulation got, and leaves the same machine.
 abbrev pub TracesAreReplayed : Type 0

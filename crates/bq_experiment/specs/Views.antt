@@ -11,17 +11,17 @@ use Rattle.bq_experiment.specs.Limits.{events_in}
 
 -- The workload has no flaw. The viewer has the schedule of a simulation of it with these policies, of at most this many events, and has
 -- counted no line of it as bad or refused.
-pub record IsViewed (policies : List Accepted) (w : Workload) (most : ℕ) (viewer : Viewer) : Type 0 where
+pub record IsViewed (policies : List Accepted) (w : Workload) (event_limit : ℕ) (viewer : Viewer) : Type 0 where
   pub reported : Reported
   pub sound : first_flaw w ≡ None
-  pub few : events_in reported ≤ most
+  pub few : events_in reported ≤ event_limit
   pub simulation : IsSimulation policies w reported
   pub schedule : viewer.schedule ≡ schedule_after None reported
   pub clean : viewer.troubles ≡ 0
 
 -- What goes to standard error ends with the last notes at the schedule that a viewer has of it.
-pub record AreNotesOf (policies : List Accepted) (w : Workload) (most : ℕ) (notes : List ℕ) : Type 0 where
+pub record AreNotesOf (policies : List Accepted) (w : Workload) (event_limit : ℕ) (notes : List ℕ) : Type 0 where
   pub viewer : Viewer
-  pub viewed : IsViewed policies w most viewer
+  pub viewed : IsViewed policies w event_limit viewer
   pub before : List ℕ
   pub whole : notes ≡ before ++ last_notes viewer.schedule 0

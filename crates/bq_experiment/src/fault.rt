@@ -15,5 +15,5 @@ pub enum RunFault {
     Write,
     /// It has more events than it may have.
     #[error("the run was cut off: it has more events than --max-events allows")]
-    Events,
+    TooManyEvents,
 }

@@ -13,20 +13,20 @@ pub struct Limited<S> {
     pub sink: S,
     /// How many more machine events it may pass on.
     pub left: u64,
-    /// Whether one event more came.
+    /// Whether a machine event came when it could pass on none.
     pub is_over: bool,
 }
 
 impl<S> Limited<S> {
-    /// The sink may get this many machine events.
-    pub fn new(sink: S, most: u64) -> Limited<S>
+    /// A sink that passes on at most this many machine events.
+    pub fn new(sink: S, event_limit: u64) -> Limited<S>
         ensures sink { result.sink ≡ sink }
-        ensures left { result.left ≡ most }
+        ensures left { result.left ≡ event_limit }
         ensures over { result.is_over ≡ false }
     {
         Limited {
             sink,
-            left: most,
+            left: event_limit,
             is_over: false,
         }
     }
@@ -55,7 +55,7 @@ impl<S> Limited<S> {
 }
 
 impl<S> Enough for Limited<S> {
-    ghost sated = { λ l. l.is_over };
+    ghost has_enough = { λ l. l.is_over };
 
     fn has_enough(&self) -> bool {
         self.is_over

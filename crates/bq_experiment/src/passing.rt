@@ -26,7 +26,7 @@ pub struct Passing<'a, S, W, E> {
 }
 
 impl<'a, S, W, E> Passing<'a, S, W, E> {
-    /// Nothing is written yet.
+    /// A sink that has written nothing yet.
     pub fn new(sink: S, output: W, errors: E, progress: RunProgress<'a>) -> Passing<'a, S, W, E>
         ensures sink { result.sink ≡ sink }
         ensures output { counted_inner result.output ≡ output }

@@ -53,7 +53,7 @@ impl Model for Policies {
 }
 
 impl Policies {
-    /// No policy at any hook.
+    /// There is no policy at any hook yet.
     pub fn new(alloc: Global) -> Policies
         ensures loaded { result.loaded ≡ [] }
         ensures images { result.images ≡ [] }

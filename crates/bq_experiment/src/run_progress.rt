@@ -17,7 +17,7 @@ pub struct RunProgress<'a> {
 }
 
 impl<'a> RunProgress<'a> {
-    /// No event of the workload's run has come.
+    /// The progress of a run of this workload, of which no event has come.
     pub fn new(workload: &Workload, progress: &'a ProgressLine<'a>) -> RunProgress<'a> {
         RunProgress {
             progress,

@@ -122,13 +122,13 @@ IsWant why.OutOfMemory = ⊤
 IsWant fault = ⊥
 
 -- a simulation that wants memory is not one that is too long
-pub wants-no-end : why.OutOfMemory ≡ why.Endless → ⊥
+pub wants-no-end : why.OutOfMemory ≡ why.TooManySteps → ⊥
 wants-no-end same = subst IsWant same tt
 
 -- where one is, 64 bits do not count the bound of its steps
-pub bound-of-endless : (w : Workload) → EndsEarly w why.Endless → 2 ^ 64 ≤ (w.machine.duration + 1) * steps_at_once w
-bound-of-endless w (inl wants) = absurd (wants-no-end (sym wants))
-bound-of-endless w (inr ends) = ends.1
+pub bound-of-too_many_steps : (w : Workload) → EndsEarly w why.TooManySteps → 2 ^ 64 ≤ (w.machine.duration + 1) * steps_at_once w
+bound-of-too_many_steps w (inl wants) = absurd (wants-no-end (sym wants))
+bound-of-too_many_steps w (inr ends) = ends.1
 
 -- two things that hold of an error
 pub err-both : {T E : Type 0} {P Q R : E → Type 0} (r : Result T E) → IfErr r P → IfErr r Q → ((e : E) → P e → Q e → R e) → IfErr r R

@@ -230,7 +230,7 @@ simulation-of takes a b c policies w d s t first new runs =
     λ x. DeedsLead kinds machine.seed x ended.driver stood ticks.deeds ticks.reports.reported t.driver (book_of t ticks.after) in
     let none =
     subst (λ (p : Periods). NothingComes p.end (accounts_of ended.roster)) (met.periods ∙ new.periods)
-    (runs.none (met.agrees new.agreed)) in
+    (runs.nothing_due (met.agrees new.agreed)) in
     let last = subst V (met.periods ∙ new.periods) (subst U (met.seed ∙ new.seed) ticks.reports.holds) in
     let deeds = met.deeds ++ ticks.deeds in
     let reported = met.reports.reported ++ ticks.reports.reported in
@@ -272,12 +272,12 @@ simulation-of takes a b c policies w d s t first new runs =
     }
 
 -- what is reported of the opening machine, and then of all deeds, where the sink may have enough before the end
-pub followed-of : {S : Type 0} (takes : S → ℕ → TraceEvent → S → Type 0) (sated : S → Bool) (a b c : S)
+pub followed-of : {S : Type 0} (takes : S → ℕ → TraceEvent → S → Type 0) (has_enough : S → Bool) (a b c : S)
     (policies : List Accepted) (w : Workload) (d : Driver) (s t : Simulation)
     → Gets takes a b (λ reported. Starts w.machine.discipline w.machine.size reported d) → IsNew w d s
-    → RunsToEndOrEnough takes sated policies w b s c t
-    → Gets takes a c (IsFollowed (sated c) policies w)
-followed-of takes sated a b c policies w d s t first new runs =
+    → RunsToEndOrEnough takes has_enough policies w b s c t
+    → Gets takes a c (IsFollowed (has_enough c) policies w)
+followed-of takes has_enough a b c policies w d s t first new runs =
     elim runs [
       | inl whole ↦
           let g = simulation-of takes a b c policies w d s t first new whole in

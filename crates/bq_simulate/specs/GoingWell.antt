@@ -17,7 +17,7 @@ use Rattle.bq_workload.specs.Soundness.{first_flaw}
 use Rattle.bq_workload.specs.Strays.{IsStrayPass, IsStraySwitch}
 use Rattle.bq_simulate.specs.declared.driver.Driver.{Driver}
 use Rattle.bq_simulate.specs.declared.fault.SimulateFault.{SimulateFault}
-use Rattle.bq_simulate.specs.declared.fault.SimulateFault.TheVariants.{Endless, Enough, OutOfMemory}
+use Rattle.bq_simulate.specs.declared.fault.SimulateFault.TheVariants.{TooManySteps, Enough, OutOfMemory}
 use Rattle.bq_simulate.specs.declared.simulation.Simulation.{Simulation}
 use Rattle.bq_simulate.specs.Actions.{first_task_of}
 use Rattle.bq_simulate.specs.Agreement.{AgreesBut, AgreesWith, IsOnTime, runner_at}
@@ -126,17 +126,17 @@ abbrev pub WantsMemory : SimulateFault → Type 0
 WantsMemory why = why ≡ OutOfMemory
 
 -- 2 ^ 64 - 1 things came due, and 64 bits do not count the bound of its steps
-abbrev pub IsEndless : Workload → SimulateFault → Type 0
-IsEndless w why = (why ≡ Endless) × (2 ^ 64 ≤ (w.machine.duration + 1) * steps_at_once w)
+abbrev pub HasTooManySteps : Workload → SimulateFault → Type 0
+HasTooManySteps w why = (why ≡ TooManySteps) × (2 ^ 64 ≤ (w.machine.duration + 1) * steps_at_once w)
 
 -- memory ran out, or the most things came due and 64 bits do not count the bound of its steps
 abbrev pub EndsEarly : Workload → SimulateFault → Type 0
-EndsEarly w why = (why ≡ OutOfMemory) ⊎ IsEndless w why
+EndsEarly w why = (why ≡ OutOfMemory) ⊎ HasTooManySteps w why
 
--- this holds if the fault is that there is no end
-abbrev pub IfEndless : Type 0 → SimulateFault → Type 0
-IfEndless Holds why = why ≡ Endless → Holds
+-- this holds if the fault is that there are too many steps
+abbrev pub IfTooManySteps : Type 0 → SimulateFault → Type 0
+IfTooManySteps Holds why = why ≡ TooManySteps → Holds
 
 -- memory ran out, or the sink has enough, or the most things came due and 64 bits do not count the bound of its steps
 abbrev pub IsCutOff : Workload → SimulateFault → Type 0
-IsCutOff w why = (why ≡ OutOfMemory) ⊎ ((why ≡ Enough) ⊎ IsEndless w why)
+IsCutOff w why = (why ≡ OutOfMemory) ⊎ ((why ≡ Enough) ⊎ HasTooManySteps w why)

@@ -118,7 +118,7 @@ IsFollowed enough policies w reported = IsSimulation policies w reported ⊎ ((e
 
 -- a sink has enough, and got events of which this holds
 abbrev pub HasEnough : {S : Type 0} → SinkTakes S → (S → Bool) → (Reported → Type 0) → S → S → Type 0
-HasEnough takes sated Holds old new = (sated new ≡ true) × Gets takes old new Holds
+HasEnough takes has_enough Holds old new = (has_enough new ≡ true) × Gets takes old new Holds
 
 -- the streams of the tasks from this number on, each after this many draws
 abbrev pub streams_after : ℕ → ℕ → List ℕ → List Lcg
@@ -196,7 +196,7 @@ pub record RunsToLastTicks {S : Type 0} (takes : SinkTakes S) (policies : List A
   pub sink : S
   pub ended : Simulation
   pub proceeds : GoesOnFromBook takes kinds (Proceeds policies processors kinds s.seed s.roster.periods most end) old s sink ended
-  pub none : IsAgreed ended.roster → NothingComes ended.roster.periods.end (accounts_of ended.roster)
+  pub nothing_due : IsAgreed ended.roster → NothingComes ended.roster.periods.end (accounts_of ended.roster)
   pub over : is_over end (accounts_of ended.roster) ≡ true
   pub ticks : GoesOnBy takes kinds (AreJustEvents (last_ticks end processors)) sink ended new t
 
@@ -206,9 +206,9 @@ HasProceeded takes policies w old s new t = GoesOnFromBook takes w.tasks.items (
 
 -- it goes on to its end, or until the sink has enough
 abbrev pub RunsToEndOrEnough : {S : Type 0} → SinkTakes S → (S → Bool) → List Accepted → Workload → S → Simulation → S → Simulation → Type 0
-RunsToEndOrEnough takes sated policies w old s new t =
+RunsToEndOrEnough takes has_enough policies w old s new t =
     RunsToLastTicks takes policies w.tasks.items (most_steps w) w.machine.duration (processors_in w.machine.size) old s new t
-    ⊎ ((sated new ≡ true) × HasProceeded takes policies w old s new t)
+    ⊎ ((has_enough new ≡ true) × HasProceeded takes policies w old s new t)
 
 -- it goes on until as many things have come due as its bound for all instants until its end, as far as 64 bits count
 abbrev pub ComesToBound : {S : Type 0} → SinkTakes S → List Accepted → Workload → S → Simulation → S → Simulation → Type 0

@@ -4,9 +4,9 @@ ghost use Rattle.std.specs.Prelude.{◌≡◌, Bool};
 /// What may have enough of a simulation before its end.
 pub trait Enough {
     /// Whether it has enough.
-    ghost sated: { Self → Bool };
+    ghost has_enough: { Self → Bool };
 
     /// Whether the sink has enough.
     fn has_enough(&self) -> bool
-        ensures { result ≡ sated self.now };
+        ensures { result ≡ Self.has_enough self.now };
 }

@@ -4,7 +4,7 @@ ghost use Rattle.bq_workload.specs.declared.workload.Workload.{Workload};
 ghost use Rattle.bq_simulate.specs.Faults.{reported_flaw};
 ghost use Rattle.bq_simulate.specs.GoingWell.{EndsEarly, IsCutOff};
 ghost use Rattle.bq_simulate.specs.declared.drive_fault.DriveFault.TheVariants as drive;
-ghost use Rattle.bq_simulate.specs.declared.fault.SimulateFault.TheVariants.{BrokenInvariant, Endless, Enough, OutOfMemory};
+ghost use Rattle.bq_simulate.specs.declared.fault.SimulateFault.TheVariants.{BrokenInvariant, TooManySteps, Enough, OutOfMemory};
 
 use crate::DriveFault;
 use bq_workload::{BrokenInvariant, Unsound};
@@ -12,8 +12,8 @@ use std::alloc::AllocError;
 use thiserror::Error;
 
 /// Why a simulation does not come to its end. What the sink got by then is the beginning of a trace; this is proved for `Enough`
-/// and `Endless`, and only tested for the other faults. It is proved that no simulation ends by `Drive` or `BrokenInvariant`,
-/// and that none ends by `Endless` if 64 bits count the bound of its steps.
+/// and `TooManySteps`, and only tested for the other faults. It is proved that no simulation ends by `Drive` or `BrokenInvariant`,
+/// and that none ends by `TooManySteps` if 64 bits count the bound of its steps.
 #[derive(Debug, Drop, Error)]
 pub enum SimulateFault {
     /// Memory ran out.
@@ -31,7 +31,7 @@ pub enum SimulateFault {
     /// 2^64 - 1 things came due: as many steps as 64 bits count. It is proved that this happens only if 64 bits do not count the bound
     /// of the workload's steps.
     #[error("the simulation had not ended after 2^64 - 1 steps, and 64 bits count no more")]
-    Endless,
+    TooManySteps,
     /// The sink has enough of it.
     #[error("more came than is wanted")]
     Enough,
@@ -44,7 +44,7 @@ impl SimulateFault {
         ensures sound { reported_flaw result ≡ None }
         ensures other { result ≢ Enough }
         ensures early { (w : Workload) → EndsEarly w self → IsCutOff w result }
-        ensures endless { result ≡ Endless → self ≡ Endless }
+        ensures too_many_steps { result ≡ TooManySteps → self ≡ TooManySteps }
     {
         match self {
             SimulateFault::Unsound(_) | SimulateFault::Enough => SimulateFault::BrokenInvariant,

@@ -22,7 +22,7 @@ use bq_workload::{
 };
 use std::alloc::Global;
 
-/// A simulation on its way: its machine, its tasks and processors, the draws of each task, the first task of each kind,
+/// A simulation on its way: its machine, its tasks and processors, the stream of draws of each task, the first task of each kind,
 /// what is counted, and the seed of the draws.
 #[derive(Drop)]
 pub struct Simulation {
@@ -73,8 +73,8 @@ impl Simulation {
         })
     }
 
-    /// What comes due at an instant is done.
-    pub(crate) fn meet<S: Sink>(
+    /// Does what comes due at an instant.
+    pub(crate) fn handle_due<S: Sink>(
         &mut self,
         alloc: Global,
         workload: &Workload,

@@ -20,7 +20,7 @@ pub struct TraceWriter<'a> {
 }
 
 impl<'a> TraceWriter<'a> {
-    /// Nothing has come.
+    /// A writer to which nothing has come.
     pub fn new(alloc: Global, images: Images<'a>) -> TraceWriter<'a>
         ensures text { string_bytes result.text ≡ [] }
         ensures images { result.images ≡ images.entry }

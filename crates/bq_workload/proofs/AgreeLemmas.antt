@@ -9,8 +9,8 @@ use Rattle.bq_workload.specs.declared.due.Due.{Due}
 use Rattle.bq_workload.specs.declared.due.Due.TheVariants.{End}
 use Rattle.bq_workload.specs.declared.processor_state.ProcessorState.{ProcessorState}
 use Rattle.bq_workload.specs.Accounts.{Accounts, changed_at, is_same}
-use Rattle.bq_workload.specs.Dues.{IsDropped, IsDue, IsPlanned, phase_end, due_place, until}
-use Rattle.bq_workload.specs.Minima.{at_place, due_number}
+use Rattle.bq_workload.specs.Dues.{IsDropped, IsDue, IsPlanned, phase_end, due_rank, until}
+use Rattle.bq_workload.specs.Minima.{at_rank, due_number}
 use Rattle.bq_workload.specs.Next.{AgreesAt, HasHome, HaveHomes, TaskRests, comes_at, phase_ends_at, runs_at}
 use Rattle.bq_disc.specs.declared.limits.TheConstants.{PROCESSORS}
 
@@ -65,13 +65,13 @@ changed_at-read {A} {B} f v same xs n k = elim (cases_eq k n) [
   ]
 ]
 
--- what comes when it came, and whose place is as it was
+-- what comes when it came, and of whose rank the event queue says what it said
 pub agrees_if_kept : (end : ℕ) (a b : Accounts) (x y : List ℕ) (due : Due)
-    → comes_at end b due ≡ comes_at end a due → (IsDue due → at_place y (due_place due) ≡ at_place x (due_place due))
+    → comes_at end b due ≡ comes_at end a due → (IsDue due → at_rank y (due_rank due) ≡ at_rank x (due_rank due))
     → AgreesAt end a x due
     → AgreesAt end b y due
-agrees_if_kept end a b x y due same place h = record {
-  at = λ there. place there ∙ h.at there ∙ ap (due_number (due_place due)) (sym same);
+agrees_if_kept end a b x y due same rank h = record {
+  at = λ there. rank there ∙ h.at there ∙ ap (due_number (due_rank due)) (sym same);
   there = λ time is. h.there time (sym same ∙ is);
 }
 
@@ -79,12 +79,12 @@ agrees_if_kept end a b x y due same place h = record {
 pub agrees_if_planned : (end time : ℕ) (b : Accounts) (x y : List ℕ) (due : Due)
     → IsPlanned end due time x y → comes_at end b due ≡ until end time → AgreesAt end b y due
 agrees_if_planned end time b x y due p is =
-    record { at = λ there. p.at ∙ ap (due_number (due_place due)) (sym is); there = λ t some. p.there }
+    record { at = λ there. p.at ∙ ap (due_number (due_rank due)) (sym is); there = λ t some. p.there }
 
 -- what does not come
 pub agrees_if_dropped : (end : ℕ) (b : Accounts) (x y : List ℕ) (due : Due)
     → IsDropped due x y → comes_at end b due ≡ None → AgreesAt end b y due
-agrees_if_dropped end b x y due d is = record { at = λ there. d.at ∙ ap (due_number (due_place due)) (sym is); there = λ t some. d.there }
+agrees_if_dropped end b x y due d is = record { at = λ there. d.at ∙ ap (due_number (due_rank due)) (sym is); there = λ t some. d.there }
 
 -- a phase of a task that has not changed ends when it did
 ends-same : (end : ℕ) (cs ds : List TaskProgress) (processor_state : ProcessorState)
@@ -102,9 +102,9 @@ ends-same end cs ds processor_state same =
 pub kept-end : (end q : ℕ) (a b : Accounts) (x y : List ℕ) → slice_get b.by_processor q ≡ slice_get a.by_processor q
     → ((task : ℕ) (processor_state : ProcessorState) → slice_get a.by_processor q ≡ Some processor_state →
     processor_state.run ≡ Some task → slice_get b.by_task task ≡ slice_get a.by_task task)
-    → (q < PROCESSORS → at_place y q ≡ at_place x q) → AgreesAt end a x (End q)
+    → (q < PROCESSORS → at_rank y q ≡ at_rank x q) → AgreesAt end a x (End q)
     → AgreesAt end b y (End q)
-kept-end end q a b x y by_processor by_task place h =
+kept-end end q a b x y by_processor by_task rank h =
     let at : List TaskProgress → Option ProcessorState → Option ℕ = λ cs o. option_and_then (phase_ends_at end cs) o in
     let same : at b.by_task (slice_get a.by_processor q) ≡ at a.by_task (slice_get a.by_processor q) =
     elim (some_or_none (slice_get a.by_processor q)) [
@@ -113,7 +113,7 @@ kept-end end q a b x y by_processor by_task place h =
           ap (at b.by_task) is ∙ ends-same end a.by_task b.by_task processor_state (λ task runs. by_task task processor_state is runs)
           ∙ sym (ap (at a.by_task) is)
     ] in
-    agrees_if_kept end a b x y (End q) (ap (at b.by_task) by_processor ∙ same) place h
+    agrees_if_kept end a b x y (End q) (ap (at b.by_task) by_processor ∙ same) rank h
 
 -- a task that has not changed has the home that it had
 pub kept-home : (a b : Accounts) (task q : ℕ) → slice_get b.by_task task ≡ slice_get a.by_task task → HasHome a task q → HasHome b task q

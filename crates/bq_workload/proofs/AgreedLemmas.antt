@@ -13,8 +13,8 @@ use Rattle.bq_workload.specs.declared.processor_state.ProcessorState.{ProcessorS
 use Rattle.bq_workload.specs.declared.periods.Periods.{Periods}
 use Rattle.bq_workload.specs.Accounts.{Accounts, changed_at, accounts_charged, runner_charged, idled, occupied, of_processor, taken_over}
 use Rattle.bq_workload.specs.TaskProgress.{moved_to, run_for}
-use Rattle.bq_workload.specs.Dues.{IsDue, phase_end, next_multiple, due_place, until}
-use Rattle.bq_workload.specs.Minima.{at_place}
+use Rattle.bq_workload.specs.Dues.{IsDue, phase_end, next_multiple, due_rank, until}
+use Rattle.bq_workload.specs.Minima.{at_rank}
 use Rattle.bq_workload.specs.Next.{QueueAgrees, AgreesAt, HasHome, HaveHomes, TaskRests, comes_at, phase_ends_at, rings_at}
 use Rattle.bq_workload.specs.Plans.{PlansLook, PlansNone, PlansTask, PlansTick}
 use Rattle.bq_workload.proofs.AgreeLemmas.{changed_at-here, changed_at-others, changed_at-read, agrees_if_dropped, agrees_if_kept, kept-end, kept-home, resting_runs_nowhere, one-home, agrees_if_planned, some_or_none}
@@ -36,11 +36,11 @@ tick_at end l = option_and_then (until end) l.tick
 abbrev pub look_at : ℕ → ProcessorState → Option ℕ
 look_at end l = option_and_then (until end) l.look
 
--- an event queue that is the same at a place
+-- an event queue that is the same at a rank
 pub agrees_if_same_there : (end : ℕ) (b : Accounts) (x y : List ℕ) (due : Due)
-    → (IsDue due → at_place y (due_place due) ≡ at_place x (due_place due)) → AgreesAt end b x due
+    → (IsDue due → at_rank y (due_rank due) ≡ at_rank x (due_rank due)) → AgreesAt end b x due
     → AgreesAt end b y due
-agrees_if_same_there end b x y due place h = agrees_if_kept end b b x y due refl place h
+agrees_if_same_there end b x y due rank h = agrees_if_kept end b b x y due refl rank h
 
 -- all but the end of the phase at a processor agrees
 pub record AgreesBut (end p : ℕ) (a : Accounts) (x : List ℕ) : Type 0 where
@@ -68,9 +68,9 @@ with_end end p a x h at (Wake k) = h.wakes k
 with_end end p a x h at (Tick q) = h.ticks q
 with_end end p a x h at (Look q) = h.looks q
 
--- only at the places of a processor has an event queue changed
+-- only at the ranks of a processor has an event queue changed
 abbrev Elsewhere : ℕ → List ℕ → List ℕ → Type 0
-Elsewhere p x y = (k : ℕ) → k < LEAVES → k ≢ p → k ≢ FIRST_TICK + p → k ≢ FIRST_LOOK + p → at_place y k ≡ at_place x k
+Elsewhere p x y = (k : ℕ) → k < LEAVES → k ≢ p → k ≢ FIRST_TICK + p → k ≢ FIRST_LOOK + p → at_rank y k ≡ at_rank x k
 
 -- only one processor has changed, and what is due there agrees
 pub record Changes (end p : ℕ) (a b : Accounts) (x y : List ℕ) : Type 0 where
@@ -80,7 +80,7 @@ pub record Changes (end p : ℕ) (a b : Accounts) (x y : List ℕ) : Type 0 wher
       → q ≢ p → slice_get a.by_processor q ≡ Some processor_state → processor_state.run ≡ Some task
       → slice_get b.by_task task ≡ slice_get a.by_task task
   pub rings : (k : ℕ) → comes_at end b (Wake k) ≡ comes_at end a (Wake k)
-  pub places : Elsewhere p x y
+  pub ranks : Elsewhere p x y
   pub ends : AgreesAt end b y (End p)
   pub ticks : AgreesAt end b y (Tick p)
   pub looks : AgreesAt end b y (Look p)
@@ -94,23 +94,23 @@ after-change end p a b x y h c =
     let low = c.low in
     let ends : (q : ℕ) → q ≢ p → AgreesAt end b y (End q) = λ q other.
     kept-end end q a b x y (c.by_processor q other) (λ task processor_state at runs. c.by_task q task processor_state other at runs)
-    (λ few. c.places q (omega arith) other (omega arith) (omega arith)) (h.ends q other) in
+    (λ few. c.ranks q (omega arith) other (omega arith) (omega arith)) (h.ends q other) in
     let wakes : (k : ℕ) → AgreesAt end b y (Wake k) = λ k.
     agrees_if_kept end a b x y (Wake k) (c.rings k)
-    (λ few. c.places (FIRST_WAKE + k) (omega arith) (omega arith) (omega arith) (omega arith)) (h.wakes k) in
+    (λ few. c.ranks (FIRST_WAKE + k) (omega arith) (omega arith) (omega arith) (omega arith)) (h.wakes k) in
     let ticks : (q : ℕ) → AgreesAt end b y (Tick q) = λ q. elim (cases_eq q p) [
       | inl same ↦ subst (λ k. AgreesAt end b y (Tick k)) (sym same) c.ticks
       | inr other ↦
           agrees_if_kept end a b x y (Tick q)
           (ap (λ (o : Option ProcessorState). option_and_then (tick_at end) o) (c.by_processor q other))
-          (λ few. c.places (FIRST_TICK + q) (omega arith) (omega arith) (omega arith) (omega arith)) (h.ticks q)
+          (λ few. c.ranks (FIRST_TICK + q) (omega arith) (omega arith) (omega arith) (omega arith)) (h.ticks q)
     ] in
     let looks : (q : ℕ) → AgreesAt end b y (Look q) = λ q. elim (cases_eq q p) [
       | inl same ↦ subst (λ k. AgreesAt end b y (Look k)) (sym same) c.looks
       | inr other ↦
           agrees_if_kept end a b x y (Look q)
           (ap (λ (o : Option ProcessorState). option_and_then (look_at end) o) (c.by_processor q other))
-          (λ few. c.places (FIRST_LOOK + q) (omega arith) (omega arith) (omega arith) (omega arith)) (h.looks q)
+          (λ few. c.ranks (FIRST_LOOK + q) (omega arith) (omega arith) (omega arith) (omega arith)) (h.looks q)
     ] in
     let homes : HaveHomes b = λ q task processor_state at runs. elim (cases_eq q p) [
       | inl same ↦
@@ -188,27 +188,27 @@ pub agrees_if_times_same : (end p : ℕ) (f : ProcessorState → ProcessorState)
     → QueueAgrees end b y
 agrees_if_times_same end p f a b x y run ends tick look is event_queue h =
     let c = of_processor f p a in
-    let place : (due : Due) → IsDue due → at_place y (due_place due) ≡ at_place x (due_place due) =
-    λ due there. ap (λ (l : List ℕ). at_place l (due_place due)) event_queue in
+    let rank : (due : Due) → IsDue due → at_rank y (due_rank due) ≡ at_rank x (due_rank due) =
+    λ due there. ap (λ (l : List ℕ). at_rank l (due_rank due)) event_queue in
     let at : AgreesBut end PROCESSORS c y = record {
       ends = λ q other.
           agrees_if_kept end a c x y (End q) (changed_at-read f (phase_ends_at end a.by_task) (ends a.by_task) a.by_processor p q)
-          (place (End q)) (h.all (End q));
-      wakes = λ k. agrees_if_kept end a c x y (Wake k) refl (place (Wake k)) (h.all (Wake k));
+          (rank (End q)) (h.all (End q));
+      wakes = λ k. agrees_if_kept end a c x y (Wake k) refl (rank (Wake k)) (h.all (Wake k));
       ticks = λ q.
           agrees_if_kept end a c x y (Tick q)
           (changed_at-read f (tick_at end) (λ l. ap (λ (o : Option ℕ). option_and_then (until end) o) (tick l)) a.by_processor p q)
-          (place (Tick q)) (h.all (Tick q));
+          (rank (Tick q)) (h.all (Tick q));
       looks = λ q.
           agrees_if_kept end a c x y (Look q)
           (changed_at-read f (look_at end) (λ l. ap (λ (o : Option ℕ). option_and_then (until end) o) (look l)) a.by_processor p q)
-          (place (Look q)) (h.all (Look q));
+          (rank (Look q)) (h.all (Look q));
       homes = homes-read f run p a c refl (λ k. refl) h.homes;
     } in
     let whole : QueueAgrees end c y = record {
       all =
           with_end end PROCESSORS c y at (agrees_if_kept end a c x y (End PROCESSORS)
-          (changed_at-read f (phase_ends_at end a.by_task) (ends a.by_task) a.by_processor p PROCESSORS) (place (End PROCESSORS)) (h.all (End PROCESSORS)));
+          (changed_at-read f (phase_ends_at end a.by_task) (ends a.by_task) a.by_processor p PROCESSORS) (rank (End PROCESSORS)) (h.all (End PROCESSORS)));
       homes = at.homes;
     } in
     subst (λ (z : Accounts). QueueAgrees end z y) (sym is) whole
@@ -337,13 +337,13 @@ tick-planned : (periods : Periods) (p now : ℕ) (tick : Option ℕ) (a b : Acco
 tick-planned periods p now None a b x y was is plans h =
     agrees_if_planned periods.end (next_multiple periods.tick now) b x y (Tick p) plans is
 tick-planned periods p now (Some time) a b x y was is same h =
-    agrees_if_kept periods.end a b x y (Tick p) (is ∙ sym was) (λ low. ap (λ (l : List ℕ). at_place l (FIRST_TICK + p)) same) h
+    agrees_if_kept periods.end a b x y (Tick p) (is ∙ sym was) (λ low. ap (λ (l : List ℕ). at_rank l (FIRST_TICK + p)) same) h
 
--- a tick that is put down leaves what is due at every other place
+-- a tick that is put down leaves what is due at every other rank
 tick-others : (periods : Periods) (p now : ℕ) (tick : Option ℕ) (x y : List ℕ)
-    → PlansTick periods p now tick x y → (k : ℕ) → k < LEAVES → k ≢ FIRST_TICK + p → at_place y k ≡ at_place x k
+    → PlansTick periods p now tick x y → (k : ℕ) → k < LEAVES → k ≢ FIRST_TICK + p → at_rank y k ≡ at_rank x k
 tick-others periods p now None x y plans k few other = plans.others k few other
-tick-others periods p now (Some time) x y same k few other = ap (λ (l : List ℕ). at_place l k) same
+tick-others periods p now (Some time) x y same k few other = ap (λ (l : List ℕ). at_rank l k) same
 
 -- a look that is put down where there are looks
 look-planned : (periods : Periods) (p now : ℕ) (look : Option ℕ) (a b : Accounts) (x y : List ℕ)
@@ -352,13 +352,13 @@ look-planned : (periods : Periods) (p now : ℕ) (look : Option ℕ) (a b : Acco
     → PlansLook periods p now look x y → AgreesAt periods.end a x (Look p)
     → AgreesAt periods.end b y (Look p)
 look-planned periods p now None a b x y was is same h =
-    agrees_if_kept periods.end a b x y (Look p) (is ∙ sym was) (λ low. ap (λ (l : List ℕ). at_place l (FIRST_LOOK + p)) same) h
+    agrees_if_kept periods.end a b x y (Look p) (is ∙ sym was) (λ low. ap (λ (l : List ℕ). at_rank l (FIRST_LOOK + p)) same) h
 look-planned periods p now (Some time) a b x y was is plans h = agrees_if_planned periods.end now b x y (Look p) plans is
 
--- a look that is put down leaves what is due at every other place
+-- a look that is put down leaves what is due at every other rank
 look-others : (periods : Periods) (p now : ℕ) (look : Option ℕ) (x y : List ℕ)
-    → PlansLook periods p now look x y → (k : ℕ) → k < LEAVES → k ≢ FIRST_LOOK + p → at_place y k ≡ at_place x k
-look-others periods p now None x y same k few other = ap (λ (l : List ℕ). at_place l k) same
+    → PlansLook periods p now look x y → (k : ℕ) → k < LEAVES → k ≢ FIRST_LOOK + p → at_rank y k ≡ at_rank x k
+look-others periods p now None x y same k few other = ap (λ (l : List ℕ). at_rank l k) same
 look-others periods p now (Some time) x y plans k few other = plans.others k few other
 
 -- a task that rests begins to run at a processor
@@ -386,7 +386,7 @@ started-agrees periods p t now processor_state c a b x y h at rests is there pla
       by_processor = λ q other. changed_at-others f a.by_processor p q other;
       by_task = λ q task l other here mine. changed_at-others g a.by_task t task (alone q task l here mine);
       rings = λ k. changed_at-read g (ring end) (λ e. refl) a.by_task t k;
-      places = λ k few one two three.
+      ranks = λ k few one two three.
           plans.ends.others k few one ∙ tick-others periods p now processor_state.tick x plans.mid plans.ticks k few two;
       ends = agrees_if_planned end (phase_end now c) d plans.mid y (End p) plans.ends (end-of end p t d (f processor_state) c new refl runs);
       ticks = agrees_if_same_there end d plans.mid y (Tick p) (λ few. plans.ends.others (FIRST_TICK + p) (omega arith) (omega arith)) mid;
@@ -427,7 +427,7 @@ idled-agrees periods p now processor_state a b x y h at is plans =
       by_processor = λ q other. changed_at-others f a.by_processor p q other;
       by_task = λ q task l other here mine. refl;
       rings = λ k. refl;
-      places = λ k few i j l. three k few l ∙ two k few j ∙ one k few i;
+      ranks = λ k few i j l. three k few l ∙ two k few j ∙ one k few i;
       ends =
           agrees_if_same_there end d plans.ended y (End p)
           (λ few. three p (omega arith) (omega arith) ∙ two p (omega arith) (omega arith))

@@ -4,7 +4,7 @@ use Rattle.std.specs.Prelude.{◌&&◌, IfSome, OnOk, Ok, Err, Result, if◌then
 use Rattle.std.specs.Option.{option_map_or}
 use Rattle.std.proofs.lemmas.Bool.{cases_eq, cases_lt, le-leb, le-ltb, lt-leb, lt-ltb, ltb-false, ltb-true}
 use Rattle.std.proofs.lemmas.Option.{none-some, same_Some}
-use Rattle.bq_workload.specs.declared.due.TheConstants.{FIRST_LOOK, FIRST_TICK, FIRST_WAKE, PLACES}
+use Rattle.bq_workload.specs.declared.due.TheConstants.{FIRST_LOOK, FIRST_TICK, FIRST_WAKE, RANKS}
 use Rattle.bq_workload.specs.declared.event_queue.TheConstants.{INSTANT, LEAVES}
 use Rattle.bq_workload.specs.declared.progress.TaskProgress.{TaskProgress}
 use Rattle.bq_workload.specs.declared.progress.TaskState.{TaskState}
@@ -16,8 +16,8 @@ use Rattle.bq_workload.specs.declared.periods.Periods.{Periods}
 use Rattle.bq_workload.specs.declared.roster.Roster.{Roster}
 use Rattle.bq_workload.specs.Accounts.{Accounts, IsPhaseDone, accounts_of, processor_at_rest, beaten, changed_at, accounts_charged, first_look, grown, looked, of_processor, of_task, opening_accounts, shrunk}
 use Rattle.bq_workload.specs.TaskProgress.{run_for, progress_woken}
-use Rattle.bq_workload.specs.Dues.{AreLooks, IsDropped, IsDue, IsPlanned, due_at, phase_end, look_of, next_multiple, due_place, until}
-use Rattle.bq_workload.specs.Minima.{AreNever, IsFirstDue, at_place, never_due, due_number}
+use Rattle.bq_workload.specs.Dues.{AreLooks, IsDropped, IsDue, IsPlanned, due_at, phase_end, look_of, next_multiple, due_rank, until}
+use Rattle.bq_workload.specs.Minima.{AreNever, IsFirstDue, at_rank, never_due, due_number}
 use Rattle.bq_workload.specs.Next.{QueueAgrees, AgreesAt, HasHome, HaveHomes, IsAgreed, IsBefore, IsNextDue, NothingComes, TaskRests, StaysAgreed, comes_at, phase_ends_at, rings_at}
 use Rattle.bq_workload.specs.Plans.{PlansProgress, PlansTimer}
 use Rattle.bq_workload.proofs.AgreeLemmas.{changed_at-here, changed_at-others, changed_at-read, agrees_if_dropped, agrees_if_kept, kept-end, kept-home, resting_runs_nowhere, one-home, agrees_if_planned, slice_get-set_here, slice_get-set_other, some_or_none}
@@ -81,7 +81,7 @@ beaten-agrees end p now between a b x y processor_state at is plan h =
       by_processor = λ q other. changed_at-others f a.by_processor p q other;
       by_task = λ q task l other here mine. refl;
       rings = λ k. refl;
-      places = λ k few i j l. plan.others k few j;
+      ranks = λ k few i j l. plan.others k few j;
       ends =
           agrees_if_kept end a d x y (End p) (changed_at-read f (phase_ends_at end a.by_task) (λ l. refl) a.by_processor p p)
           (λ few. plan.others p (omega arith) (omega arith)) (h.all (End p));
@@ -109,7 +109,7 @@ looked-agrees end p now between a b x y processor_state at is plan h =
       by_processor = λ q other. changed_at-others f a.by_processor p q other;
       by_task = λ q task l other here mine. refl;
       rings = λ k. refl;
-      places = λ k few i j l. plan.others k few l;
+      ranks = λ k few i j l. plan.others k few l;
       ends =
           agrees_if_kept end a d x y (End p) (changed_at-read f (phase_ends_at end a.by_task) (λ l. refl) a.by_processor p p)
           (λ few. plan.others p (omega arith) (omega arith)) (h.all (End p));
@@ -135,10 +135,10 @@ timer-planned end task timer Waiting b x y is plan = agrees_if_dropped end b x y
 timer-planned end task timer Runnable b x y is plan = agrees_if_dropped end b x y (Wake task) plan is
 timer-planned end task timer Over b x y is plan = agrees_if_dropped end b x y (Wake task) plan is
 
--- a timer that is put down, or dropped, leaves what is due at every other place
+-- a timer that is put down, or dropped, leaves what is due at every other rank
 timer-others : (end task timer : ℕ) (task_state : TaskState) (x y : List ℕ)
     → PlansTimer end task task_state timer x y → (k : ℕ) → k < LEAVES → k ≢ FIRST_WAKE + task
-    → at_place y k ≡ at_place x k
+    → at_rank y k ≡ at_rank x k
 timer-others end task timer Asleep x y plan k few other = plan.others k few other
 timer-others end task timer Waiting x y plan k few other = plan.others k few other
 timer-others end task timer Runnable x y plan k few other = plan.others k few other
@@ -357,19 +357,19 @@ charged-agreed p now processor_state r s at is event_queue periods h =
     (subst (λ (l : List ℕ). AgreesBut end p (accounts_of s) l) (sym event_queue)
     (subst (λ (a : Accounts). AgreesBut end p a r.event_queue) (sym is) but))
 
--- places of what is due, and what is due at a place
-place-low : (due : Due) → IsDue due → due_place due < PLACES
-place-low (End p) h = omega (arith, h)
-place-low (Wake k) h = omega (arith, h)
-place-low (Tick p) h = omega (arith, h)
-place-low (Look p) h = omega (arith, h)
+-- ranks of what is due, and what is due at a rank
+rank-low : (due : Due) → IsDue due → due_rank due < RANKS
+rank-low (End p) h = omega (arith, h)
+rank-low (Wake k) h = omega (arith, h)
+rank-low (Tick p) h = omega (arith, h)
+rank-low (Look p) h = omega (arith, h)
 
--- what is at a place is due, and has that place
+-- what is at a rank is due, and has that rank
 abbrev Stands : ℕ → Due → Type 0
-Stands n due = IsDue due × (due_place due ≡ n)
+Stands n due = IsDue due × (due_rank due ≡ n)
 
--- the thing that the bounds of a place choose is due, and has that place
-stands-by : (n : ℕ) (due : Due) (a b c d : Bool) → nat_lt n FIRST_WAKE ≡ a → nat_lt n FIRST_TICK ≡ b → nat_lt n FIRST_LOOK ≡ c → nat_lt n PLACES ≡ d
+-- the thing that the bounds of a rank choose is due, and has that rank
+stands-by : (n : ℕ) (due : Due) (a b c d : Bool) → nat_lt n FIRST_WAKE ≡ a → nat_lt n FIRST_TICK ≡ b → nat_lt n FIRST_LOOK ≡ c → nat_lt n RANKS ≡ d
     → (if a then Some (End n) else if b then Some (Wake (n - FIRST_WAKE)) else if c then Some (Tick (n - FIRST_TICK))
     else if d then Some (Look (n - FIRST_LOOK)) else None)
     ≡ Some due
@@ -385,40 +385,40 @@ stands-by n due false false true d e f g h is =
     subst (Stands n) (same_Some (Tick (n - FIRST_TICK)) due is) (omega (arith, low, high), omega (arith, low, high))
 stands-by n due false false false true e f g h is =
     let low = ltb-false n FIRST_LOOK g in
-    let high = ltb-true n PLACES h in
+    let high = ltb-true n RANKS h in
     subst (Stands n) (same_Some (Look (n - FIRST_LOOK)) due is) (omega (arith, low, high), omega (arith, low, high))
 stands-by n due false false false false e f g h is = absurd (none-some due is)
 
--- the thing at a place is due, and has that place
+-- the thing at a rank is due, and has that rank
 stands : (n : ℕ) (due : Due) → due_at n ≡ Some due → Stands n due
-stands n due is = stands-by n due (nat_lt n FIRST_WAKE) (nat_lt n FIRST_TICK) (nat_lt n FIRST_LOOK) (nat_lt n PLACES) refl refl refl refl is
+stands n due is = stands-by n due (nat_lt n FIRST_WAKE) (nat_lt n FIRST_TICK) (nat_lt n FIRST_LOOK) (nat_lt n RANKS) refl refl refl refl is
 
--- a number below a place that is never due says when it is due
-number-is : (p time : ℕ) (o : Option ℕ) → p < PLACES → due_number p o ≡ time * INSTANT + p → o ≡ Some time
+-- a number below a rank that is never due says when it is due
+number-is : (p time : ℕ) (o : Option ℕ) → p < RANKS → due_number p o ≡ time * INSTANT + p → o ≡ Some time
 number-is p time None low is = absurd (omega (arith, low, is))
 number-is p time (Some t) low is = ap (λ (n : ℕ). Some n) (let e : t ≡ time = omega (arith, is) in e)
 
 -- what is first in the event queue comes first by the accounts
-pub first-next : (end : ℕ) (a : Accounts) (x : List ℕ) (time place : ℕ) (due : Due)
-    → IsFirstDue x time place → due_at place ≡ Some due → QueueAgrees end a x → IsNextDue end a due time
-first-next end a x time place due first at h =
-    let stand : Stands place due = stands place due at in
-    let low : due_place due < PLACES = place-low due stand.0 in
-    let taken : at_place x (due_place due) ≡ time * INSTANT + due_place due =
-    subst (λ (n : ℕ). at_place x n ≡ time * INSTANT + n) (sym stand.1) first.taken in
-    let bound : (other : Due) → IsDue other → time * INSTANT + due_place due ≤ at_place x (due_place other) =
+pub first-next : (end : ℕ) (a : Accounts) (x : List ℕ) (time rank : ℕ) (due : Due)
+    → IsFirstDue x time rank → due_at rank ≡ Some due → QueueAgrees end a x → IsNextDue end a due time
+first-next end a x time rank due first at h =
+    let stand : Stands rank due = stands rank due at in
+    let low : due_rank due < RANKS = rank-low due stand.0 in
+    let taken : at_rank x (due_rank due) ≡ time * INSTANT + due_rank due =
+    subst (λ (n : ℕ). at_rank x n ≡ time * INSTANT + n) (sym stand.1) first.taken in
+    let bound : (other : Due) → IsDue other → time * INSTANT + due_rank due ≤ at_rank x (due_rank other) =
     λ other there.
-    let few : due_place other < PLACES = place-low other there in
-    subst (λ (n : ℕ). time * INSTANT + n ≤ at_place x (due_place other)) (sym stand.1)
-    (first.bound (due_place other) (omega arith)) in
+    let few : due_rank other < RANKS = rank-low other there in
+    subst (λ (n : ℕ). time * INSTANT + n ≤ at_rank x (due_rank other)) (sym stand.1)
+    (first.bound (due_rank other) (omega arith)) in
     let least : (other : Due) (t : ℕ) → comes_at end a other ≡ Some t → IsBefore t other time due → ⊥ =
     λ other t comes before.
     let there : IsDue other = (h.all other).there t comes in
-    let few : due_place other < PLACES = place-low other there in
-    let stood : at_place x (due_place other) ≡ t * INSTANT + due_place other = (h.all other).at there ∙ ap (due_number (due_place other)) comes in
-    let more : time * INSTANT + due_place due ≤ at_place x (due_place other) = bound other there in
+    let few : due_rank other < RANKS = rank-low other there in
+    let stood : at_rank x (due_rank other) ≡ t * INSTANT + due_rank other = (h.all other).at there ∙ ap (due_number (due_rank other)) comes in
+    let more : time * INSTANT + due_rank due ≤ at_rank x (due_rank other) = bound other there in
     elim before [ inl early ↦ omega arith | inr same ↦ omega (arith, same.0, same.1) ] in
-    record { comes = number-is (due_place due) time (comes_at end a due) low (sym ((h.all due).at stand.0) ∙ taken); first = least }
+    record { comes = number-is (due_rank due) time (comes_at end a due) low (sym ((h.all due).at stand.0) ∙ taken); first = least }
 
 -- where nothing is due in the event queue nothing comes by the accounts
 pub none-next : (end : ℕ) (a : Accounts) (x : List ℕ) → AreNever x → QueueAgrees end a x → NothingComes end a
@@ -426,9 +426,9 @@ none-next end a x none h due = elim (some_or_none (comes_at end a due)) [
   | inl nothing ↦ nothing
   | inr (t, comes) ↦
       let there : IsDue due = (h.all due).there t comes in
-      let few : due_place due < PLACES = place-low due there in
-      let stood : at_place x (due_place due) ≡ t * INSTANT + due_place due = (h.all due).at there ∙ ap (due_number (due_place due)) comes in
-      let at : at_place x (due_place due) ≡ never_due = none (due_place due) (omega arith) in
+      let few : due_rank due < RANKS = rank-low due there in
+      let stood : at_rank x (due_rank due) ≡ t * INSTANT + due_rank due = (h.all due).at there ∙ ap (due_number (due_rank due)) comes in
+      let at : at_rank x (due_rank due) ≡ never_due = none (due_rank due) (omega arith) in
       absurd (omega (arith, few, stood, at))
 ]
 
@@ -505,9 +505,9 @@ nothing-read {B} v count k processor_state none = elim (some_or_none (slice_get 
       ∙ ap v (sym (at-replicate count k processor_state l at).1) ∙ none
 ]
 
--- no place before those of looks, and none after the last of this many, is due at the opening
-look-past : (count : ℕ) (time : Option ℕ) (place : ℕ) → place < FIRST_LOOK → look_of count time place ≡ None
-look-past count time place low = ap (λ (b : Bool). if b && nat_lt place (FIRST_LOOK + count) then time else None) (lt-leb FIRST_LOOK place low)
+-- no rank before those of looks, and none after the last of this many, is due at the opening
+look-past : (count : ℕ) (time : Option ℕ) (rank : ℕ) → rank < FIRST_LOOK → look_of count time rank ≡ None
+look-past count time rank low = ap (λ (b : Bool). if b && nat_lt rank (FIRST_LOOK + count) then time else None) (lt-leb FIRST_LOOK rank low)
 
 look-after : (count : ℕ) (time : Option ℕ) (q : ℕ) → count ≤ q → look_of count time (FIRST_LOOK + q) ≡ None
 look-after count time q high =
@@ -522,13 +522,13 @@ look-within count time q low =
 
 -- what does not come at the opening
 quiet : (end count : ℕ) (time : Option ℕ) (a : Accounts) (x : List ℕ) (due : Due)
-    → AreLooks count time x → (IsDue due → due_place due < FIRST_LOOK) → comes_at end a due ≡ None
+    → AreLooks count time x → (IsDue due → due_rank due < FIRST_LOOK) → comes_at end a due ≡ None
     → AgreesAt end a x due
 quiet end count time a x due looks low none = record {
   at = λ there.
-      let few : due_place due < FIRST_LOOK = low there in
-      looks (due_place due) (omega arith) ∙ ap (due_number (due_place due)) (look-past count time (due_place due) few)
-      ∙ ap (due_number (due_place due)) (sym none);
+      let few : due_rank due < FIRST_LOOK = low there in
+      looks (due_rank due) (omega arith) ∙ ap (due_number (due_rank due)) (look-past count time (due_rank due) few)
+      ∙ ap (due_number (due_rank due)) (sym none);
   there = λ t some. absurd (none-some t (sym none ∙ some));
 }
 

@@ -3,8 +3,8 @@ use Rattle.std.proofs.Common.{◌≡◌, ◌≢◌, ℕ, zero, suc, ◌+◌, ◌
 use Rattle.std.proofs.lemmas.Grind.{get_or_default_zero, get_or-set_at}
 use Rattle.std.proofs.lemmas.List.{get_or-replicate, get_or-set_other}
 use Rattle.std.proofs.lemmas.Bool.{cases_lt, cases_eq}
-use Rattle.bq_workload.specs.Minima.{IsLess, HasMinima, HasOtherMinima, AreLeavesPlaced, HasSpareLeaves, IsFirstDue, AreNever, never_due}
-use Rattle.bq_workload.specs.declared.due.TheConstants.{PLACES}
+use Rattle.bq_workload.specs.Minima.{IsLess, HasMinima, HasOtherMinima, AreLeavesRanked, HasSpareLeaves, IsFirstDue, AreNever, never_due}
+use Rattle.bq_workload.specs.declared.due.TheConstants.{RANKS}
 use Rattle.bq_workload.specs.declared.event_queue.TheConstants.{INSTANT, LEAVES, NODES}
 
 -- a number is one of the two below its half
@@ -37,7 +37,7 @@ min-is a b = elim (cases_lt a b) [ inl less ↦ inl (omega arith) | inr more ↦
 
 -- each number stands at some leaf
 pub leaf-of : (n k : ℕ) (xs : List ℕ) → HasMinima xs → NODES ≤ n + k → 1 ≤ k → k < NODES
-    → (place : ℕ) × (place < LEAVES) × (get_or xs (LEAVES + place) 0 ≡ get_or xs k 0)
+    → (rank : ℕ) × (rank < LEAVES) × (get_or xs (LEAVES + rank) 0 ≡ get_or xs k 0)
 leaf-of zero k xs m h low high = absurd (omega arith)
 leaf-of (suc n) k xs m h low high =
     elim (cases_lt k LEAVES) [
@@ -45,11 +45,11 @@ leaf-of (suc n) k xs m h low high =
           let less : get_or xs k 0 ≡ min (get_or xs (2 * k) 0) (get_or xs (2 * k + 1) 0) = m k low inner in
           elim (min-is (get_or xs (2 * k) 0) (get_or xs (2 * k + 1) 0)) [
             | inl left ↦
-                let below : (place : ℕ) × (place < LEAVES) × (get_or xs (LEAVES + place) 0 ≡ get_or xs (2 * k) 0) =
+                let below : (rank : ℕ) × (rank < LEAVES) × (get_or xs (LEAVES + rank) 0 ≡ get_or xs (2 * k) 0) =
                 leaf-of n (2 * k) xs m (omega arith) (omega arith) (omega arith) in
                 (below.0, below.1, below.2 ∙ sym (less ∙ left))
             | inr right ↦
-                let below : (place : ℕ) × (place < LEAVES) × (get_or xs (LEAVES + place) 0 ≡ get_or xs (2 * k + 1) 0) =
+                let below : (rank : ℕ) × (rank < LEAVES) × (get_or xs (LEAVES + rank) 0 ≡ get_or xs (2 * k + 1) 0) =
                 leaf-of n (2 * k + 1) xs m (omega arith) (omega arith) (omega arith) in
                 (below.0, below.1, below.2 ∙ sym (less ∙ right))
           ]
@@ -68,23 +68,23 @@ never-minima xs is k low high =
     let right : get_or xs (2 * k + 1) 0 ≡ never_due = all-never xs is (2 * k + 1) (omega arith) in
     omega (arith, here, left, right)
 
--- where all numbers are never due no place is due
-pub never-places : (xs : List ℕ) → xs ≡ replicate NODES never_due → AreNever xs
-never-places xs is place h = all-never xs is (LEAVES + place) (omega arith)
+-- where all numbers are never due no rank is due
+pub never-ranks : (xs : List ℕ) → xs ≡ replicate NODES never_due → AreNever xs
+never-ranks xs is rank h = all-never xs is (LEAVES + rank) (omega arith)
 
--- where the root is never due no place is
-pub nothing-due : (xs : List ℕ) → HasMinima xs → AreLeavesPlaced xs → get_or xs 1 0 ≡ never_due → AreNever xs
-nothing-due xs m places root place h =
-    let up : get_or xs 1 0 ≤ get_or xs (LEAVES + place) 0 = root-bounds NODES (LEAVES + place) xs m (omega arith) (omega arith) (omega arith) in
-    elim (places place h) [ inl none ↦ none | inr (stand, small) ↦ absurd (omega (arith, up, root, small)) ]
+-- where the root is never due no rank is
+pub nothing-due : (xs : List ℕ) → HasMinima xs → AreLeavesRanked xs → get_or xs 1 0 ≡ never_due → AreNever xs
+nothing-due xs m ranks root rank h =
+    let up : get_or xs 1 0 ≤ get_or xs (LEAVES + rank) 0 = root-bounds NODES (LEAVES + rank) xs m (omega arith) (omega arith) (omega arith) in
+    elim (ranks rank h) [ inl none ↦ none | inr (stand, small) ↦ absurd (omega (arith, up, root, small)) ]
 
--- where the root is due, it has the time and the place of what is due first
-pub first-due : (xs : List ℕ) → HasMinima xs → AreLeavesPlaced xs → get_or xs 1 0 ≢ never_due
+-- where the root is due, it has the time and the rank of what is due first
+pub first-due : (xs : List ℕ) → HasMinima xs → AreLeavesRanked xs → get_or xs 1 0 ≢ never_due
     → IsFirstDue xs (get_or xs 1 0 / LEAVES) (get_or xs 1 0 % LEAVES)
-first-due xs m places due =
-    let leaf : (place : ℕ) × (place < LEAVES) × (get_or xs (LEAVES + place) 0 ≡ get_or xs 1 0) =
+first-due xs m ranks due =
+    let leaf : (rank : ℕ) × (rank < LEAVES) × (get_or xs (LEAVES + rank) 0 ≡ get_or xs 1 0) =
     leaf-of NODES 1 xs m (omega arith) (omega arith) (omega arith) in
-    let stand : get_or xs 1 0 % LEAVES ≡ leaf.0 = elim (places leaf.0 leaf.1) [
+    let stand : get_or xs 1 0 % LEAVES ≡ leaf.0 = elim (ranks leaf.0 leaf.1) [
       | inl none ↦ absurd (due (sym leaf.2 ∙ none))
       | inr (here, small) ↦ sym (ap (λ n. n % LEAVES) leaf.2) ∙ here
     ] in
@@ -100,13 +100,13 @@ first-due xs m places due =
           omega (arith, up);
     }
 
--- what is due first has a place, and no spare leaf
-pub first-place : (xs : List ℕ) (time place : ℕ) → AreLeavesPlaced xs → HasSpareLeaves xs → time * INSTANT + place ≢ never_due
-    → IsFirstDue xs time place
-    → place < PLACES
-first-place xs time place places spare due first = elim (cases_lt place PLACES) [
+-- what is due first has a rank, and no spare leaf
+pub first-rank : (xs : List ℕ) (time rank : ℕ) → AreLeavesRanked xs → HasSpareLeaves xs → time * INSTANT + rank ≢ never_due
+    → IsFirstDue xs time rank
+    → rank < RANKS
+first-rank xs time rank ranks spare due first = elim (cases_lt rank RANKS) [
   | inl low ↦ low
-  | inr high ↦ absurd (due (sym first.taken ∙ spare place high first.within))
+  | inr high ↦ absurd (due (sym first.taken ∙ spare rank high first.within))
 ]
 
 -- what stands inside a list is the same whatever would stand outside

@@ -1,14 +1,14 @@
--- What comes due, when, and its place in the order of one instant.
+-- What comes due, when, and its rank among the things of one instant.
 use Rattle.std.specs.Prelude.{◌≡◌, ℕ, ◌+◌, ◌-◌, ◌*◌, ◌/◌, ◌^◌, ◌<◌, ◌≤◌, ◌==◌, ◌&&◌, min, nat_lt, nat_le, List, Option, Some, None, slice_get, if◌then◌else◌}
 use Rattle.std.specs.Option.{option_map_or}
 use Rattle.bq_disc.specs.declared.limits.TheConstants.{PROCESSORS, TASKS}
 use Rattle.bq_workload.specs.declared.progress.TaskProgress.{TaskProgress}
-use Rattle.bq_workload.specs.declared.due.TheConstants.{FIRST_LOOK, FIRST_TICK, FIRST_WAKE, PLACES}
+use Rattle.bq_workload.specs.declared.due.TheConstants.{FIRST_LOOK, FIRST_TICK, FIRST_WAKE, RANKS}
 use Rattle.bq_workload.specs.declared.event_queue.TheConstants.{LEAVES}
 use Rattle.bq_workload.specs.declared.due.Due.{Due}
 use Rattle.bq_workload.specs.declared.due.Due.TheVariants.{End, Wake, Tick, Look}
 use Rattle.bq_workload.specs.declared.processor_state.ProcessorState.{ProcessorState}
-use Rattle.bq_workload.specs.Minima.{at_place, never_due, due_number, ChangesOnly}
+use Rattle.bq_workload.specs.Minima.{at_rank, never_due, due_number, ChangesOnly}
 use Rattle.bq_disc.specs.declared.clock.TheConstants.{LATEST}
 
 -- the number of a processor is below the most that a machine has, and that of a task below the most tasks
@@ -18,20 +18,20 @@ IsDue (Wake task) = task < TASKS
 IsDue (Tick processor) = processor < PROCESSORS
 IsDue (Look processor) = processor < PROCESSORS
 
--- the place of a thing in the order of one instant: phase ends first, then wakes, ticks and looks
-abbrev pub due_place : Due → ℕ
-due_place (End processor) = processor
-due_place (Wake task) = FIRST_WAKE + task
-due_place (Tick processor) = FIRST_TICK + processor
-due_place (Look processor) = FIRST_LOOK + processor
+-- the rank of a thing among those of one instant: phase ends first, then wakes, ticks and looks
+abbrev pub due_rank : Due → ℕ
+due_rank (End processor) = processor
+due_rank (Wake task) = FIRST_WAKE + task
+due_rank (Tick processor) = FIRST_TICK + processor
+due_rank (Look processor) = FIRST_LOOK + processor
 
--- the thing at a place, if there is such a place
+-- the thing at a rank, if there is such a rank
 abbrev pub due_at : ℕ → Option Due
 due_at n =
     if nat_lt n FIRST_WAKE then Some (End n)
     else if nat_lt n FIRST_TICK then Some (Wake (n - FIRST_WAKE))
     else if nat_lt n FIRST_LOOK then Some (Tick (n - FIRST_TICK))
-    else if nat_lt n PLACES then Some (Look (n - FIRST_LOOK))
+    else if nat_lt n RANKS then Some (Look (n - FIRST_LOOK))
     else None
 
 -- the first multiple of the time between two things that comes after an instant
@@ -45,22 +45,22 @@ until end time = if nat_le time end && nat_le time LATEST then Some time else No
 -- this thing is due at a time, or never if that is after the end; nothing else changes in the event queue
 pub record IsPlanned (end : ℕ) (due : Due) (time : ℕ) (old new : List ℕ) : Type 0 where
   pub there : IsDue due
-  pub at : at_place new (due_place due) ≡ due_number (due_place due) (until end time)
-  pub others : ChangesOnly (due_place due) old new
+  pub at : at_rank new (due_rank due) ≡ due_number (due_rank due) (until end time)
+  pub others : ChangesOnly (due_rank due) old new
 
 -- this thing is never due; nothing else changes in the event queue
 pub record IsDropped (due : Due) (old new : List ℕ) : Type 0 where
   pub there : IsDue due
-  pub at : at_place new (due_place due) ≡ never_due
-  pub others : ChangesOnly (due_place due) old new
+  pub at : at_rank new (due_rank due) ≡ never_due
+  pub others : ChangesOnly (due_rank due) old new
 
--- when the thing at a place comes due, if each of this many processors looks at this time and nothing else comes
+-- when the thing at a rank comes due, if each of this many processors looks at this time and nothing else comes
 abbrev pub look_of : ℕ → Option ℕ → ℕ → Option ℕ
-look_of processors time place = if nat_le (due_place (Look 0)) place && nat_lt place (due_place (Look processors)) then time else None
+look_of processors time rank = if nat_le (due_rank (Look 0)) rank && nat_lt rank (due_rank (Look processors)) then time else None
 
 -- each of this many processors looks for a task then, if ever, and nothing else comes due
 abbrev pub AreLooks : ℕ → Option ℕ → List ℕ → Type 0
-AreLooks processors time event_queue = (place : ℕ) → place < LEAVES → at_place event_queue place ≡ due_number place (look_of processors time place)
+AreLooks processors time event_queue = (rank : ℕ) → rank < LEAVES → at_rank event_queue rank ≡ due_number rank (look_of processors time rank)
 
 -- when a task that runs from now on has got what its phase takes, as far as 64 bits count
 abbrev pub phase_end : ℕ → TaskProgress → ℕ

@@ -1,21 +1,21 @@
 -- A tree of least numbers, written level by level: what is at k is the less of what is at 2k and at 2k + 1. The leaves follow the inner
--- nodes: one for each place of what may come due, and spare leaves after them.
+-- nodes: one for each rank of what may come due, and spare leaves after them.
 use Rattle.std.specs.Prelude.{◌≡◌, ◌≢◌, ℕ, ◌+◌, ◌*◌, ◌%◌, ◌<◌, ◌≤◌, ◌⊎◌, List, slice_index, min, Option, Some, None}
-use Rattle.bq_workload.specs.declared.due.TheConstants.{PLACES}
+use Rattle.bq_workload.specs.declared.due.TheConstants.{RANKS}
 use Rattle.bq_workload.specs.declared.event_queue.TheConstants.{INSTANT, LEAVES, NEVER}
 
 -- the number for what is never due: above all others
 abbrev pub never_due : ℕ
 never_due = NEVER
 
--- what is due at a time is ordered by that time and then by its place
+-- what is due at a time is ordered by that time and then by its rank
 abbrev pub due_number : ℕ → Option ℕ → ℕ
-due_number place None = never_due
-due_number place (Some time) = time * INSTANT + place
+due_number rank None = never_due
+due_number rank (Some time) = time * INSTANT + rank
 
--- the number of a place
-abbrev pub at_place : List ℕ → ℕ → ℕ
-at_place xs place = slice_index xs (LEAVES + place)
+-- the number of a rank
+abbrev pub at_rank : List ℕ → ℕ → ℕ
+at_rank xs rank = slice_index xs (LEAVES + rank)
 
 -- the number at a node is the less of the two below it
 abbrev pub IsLess : List ℕ → ℕ → Type 0
@@ -29,24 +29,24 @@ HasMinima xs = (k : ℕ) → 1 ≤ k → k < LEAVES → IsLess xs k
 abbrev pub HasOtherMinima : ℕ → List ℕ → Type 0
 HasOtherMinima but xs = (k : ℕ) → 1 ≤ k → k < LEAVES → k ≢ but → IsLess xs k
 
--- each leaf is never due, or its number is of its place
-abbrev pub AreLeavesPlaced : List ℕ → Type 0
-AreLeavesPlaced xs = (place : ℕ) → place < LEAVES → (at_place xs place ≡ never_due) ⊎ ((at_place xs place % LEAVES ≡ place) × (at_place xs place < never_due))
+-- each leaf is never due, or its number is of its rank
+abbrev pub AreLeavesRanked : List ℕ → Type 0
+AreLeavesRanked xs = (rank : ℕ) → rank < LEAVES → (at_rank xs rank ≡ never_due) ⊎ ((at_rank xs rank % LEAVES ≡ rank) × (at_rank xs rank < never_due))
 
--- after the leaves of the places nothing is ever due
+-- after the leaves of the ranks nothing is ever due
 abbrev pub HasSpareLeaves : List ℕ → Type 0
-HasSpareLeaves xs = (place : ℕ) → PLACES ≤ place → place < LEAVES → at_place xs place ≡ never_due
+HasSpareLeaves xs = (rank : ℕ) → RANKS ≤ rank → rank < LEAVES → at_rank xs rank ≡ never_due
 
 -- no other leaf is changed
 abbrev pub ChangesOnly : ℕ → List ℕ → List ℕ → Type 0
-ChangesOnly place xs ys = (k : ℕ) → k < LEAVES → k ≢ place → at_place ys k ≡ at_place xs k
+ChangesOnly rank xs ys = (k : ℕ) → k < LEAVES → k ≢ rank → at_rank ys k ≡ at_rank xs k
 
 -- nothing is ever due
 abbrev pub AreNever : List ℕ → Type 0
-AreNever xs = (place : ℕ) → place < LEAVES → at_place xs place ≡ never_due
+AreNever xs = (rank : ℕ) → rank < LEAVES → at_rank xs rank ≡ never_due
 
--- what is at the place is due then, and nothing is due before it
-pub record IsFirstDue (xs : List ℕ) (time place : ℕ) : Type 0 where
-  pub within : place < LEAVES
-  pub taken : at_place xs place ≡ time * INSTANT + place
-  pub bound : (other : ℕ) → other < LEAVES → time * INSTANT + place ≤ at_place xs other
+-- the thing at the rank is due then, and nothing is due before it
+pub record IsFirstDue (xs : List ℕ) (time rank : ℕ) : Type 0 where
+  pub within : rank < LEAVES
+  pub taken : at_rank xs rank ≡ time * INSTANT + rank
+  pub bound : (other : ℕ) → other < LEAVES → time * INSTANT + rank ≤ at_rank xs other

@@ -9,8 +9,8 @@ use Rattle.bq_workload.specs.declared.due.Due.TheVariants.{End, Wake, Tick, Look
 use Rattle.bq_workload.specs.declared.processor_state.ProcessorState.{ProcessorState}
 use Rattle.bq_workload.specs.declared.roster.Roster.{Roster}
 use Rattle.bq_workload.specs.Accounts.{Accounts, accounts_of, is_same}
-use Rattle.bq_workload.specs.Dues.{IsDue, phase_end, due_place, until}
-use Rattle.bq_workload.specs.Minima.{at_place, due_number}
+use Rattle.bq_workload.specs.Dues.{IsDue, phase_end, due_rank, until}
+use Rattle.bq_workload.specs.Minima.{at_rank, due_number}
 
 -- when a phase ends: when the task that runs there, if one does, has got what is left of it
 abbrev pub phase_ends_at : ℕ → List TaskProgress → ProcessorState → Option ℕ
@@ -28,9 +28,9 @@ comes_at end a (Wake task) = option_and_then (λ progress. rings_at end progress
 comes_at end a (Tick processor) = option_and_then (λ processor_state. option_and_then (until end) processor_state.tick) (slice_get a.by_processor processor)
 comes_at end a (Look processor) = option_and_then (λ processor_state. option_and_then (until end) processor_state.look) (slice_get a.by_processor processor)
 
--- one thing is before another: it comes earlier, or at one instant with it and at a lesser place
+-- one thing is before another: it comes earlier, or at one instant with it and at a lesser rank
 abbrev pub IsBefore : ℕ → Due → ℕ → Due → Type 0
-IsBefore time due later other = (time < later) ⊎ ((time ≡ later) × (due_place due < due_place other))
+IsBefore time due later other = (time < later) ⊎ ((time ≡ later) × (due_rank due < due_rank other))
 
 -- by the accounts this thing comes at this time, and nothing else that comes until the end is before it
 pub record IsNextDue (end : ℕ) (a : Accounts) (due : Due) (time : ℕ) : Type 0 where
@@ -43,7 +43,7 @@ NothingComes end a = (due : Due) → comes_at end a due ≡ None
 
 -- an event queue says of this thing when it comes by the accounts; and a thing that comes may be due
 pub record AgreesAt (end : ℕ) (a : Accounts) (event_queue : List ℕ) (due : Due) : Type 0 where
-  pub at : IsDue due → at_place event_queue (due_place due) ≡ due_number (due_place due) (comes_at end a due)
+  pub at : IsDue due → at_rank event_queue (due_rank due) ≡ due_number (due_rank due) (comes_at end a due)
   pub there : (time : ℕ) → comes_at end a due ≡ Some time → IsDue due
 
 -- a task that runs at a processor ran there last

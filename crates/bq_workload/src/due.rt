@@ -1,6 +1,6 @@
-//! What comes due, and its place in the order of one instant.
+//! What comes due, and its rank. Of the things that are due at one instant, the one of the least rank comes first.
 ghost use Rattle.std.specs.Prelude.{◌≡◌, ◌<◌, Some};
-ghost use Rattle.bq_workload.specs.Dues.{IsDue, due_place, due_at};
+ghost use Rattle.bq_workload.specs.Dues.{IsDue, due_rank, due_at};
 
 use bq_disc::limits::{PROCESSORS, TASKS};
 
@@ -18,24 +18,24 @@ pub enum Due {
     Look(u8),
 }
 
-/// The place of the first wake, after the places of the phase ends.
+/// The rank of the first wake, after the ranks of the phase ends.
 const FIRST_WAKE: u16 = PROCESSORS as u16;
 
-/// The place of the first tick.
+/// The rank of the first tick.
 const FIRST_TICK: u16 = FIRST_WAKE + TASKS;
 
-/// The place of the first look.
+/// The rank of the first look.
 const FIRST_LOOK: u16 = FIRST_TICK + PROCESSORS as u16;
 
-/// How many places there are.
-pub(crate) const PLACES: u16 = FIRST_LOOK + PROCESSORS as u16;
+/// How many ranks there are.
+pub(crate) const RANKS: u16 = FIRST_LOOK + PROCESSORS as u16;
 
 impl Due {
-    /// Its place in the order of one instant.
-    pub fn place(self) -> u16
+    /// Its rank among the things that are due at one instant.
+    pub fn rank(self) -> u16
         requires { IsDue self }
-        ensures place { result ≡ due_place self }
-        ensures few { result < PLACES }
+        ensures rank { result ≡ due_rank self }
+        ensures few { result < RANKS }
         ensures back { due_at result ≡ Some self }
     {
         match self {
@@ -46,19 +46,19 @@ impl Due {
         }
     }
 
-    /// What comes due at a place.
-    pub fn at(place: u16) -> Due
-        requires { place < PLACES }
-        ensures { due_at place ≡ Some result }
+    /// What comes due at a rank.
+    pub fn at(rank: u16) -> Due
+        requires { rank < RANKS }
+        ensures { due_at rank ≡ Some result }
     {
-        if place < FIRST_WAKE {
-            Due::End(place as u8)
-        } else if place < FIRST_TICK {
-            Due::Wake(place - FIRST_WAKE)
-        } else if place < FIRST_LOOK {
-            Due::Tick((place - FIRST_TICK) as u8)
+        if rank < FIRST_WAKE {
+            Due::End(rank as u8)
+        } else if rank < FIRST_TICK {
+            Due::Wake(rank - FIRST_WAKE)
+        } else if rank < FIRST_LOOK {
+            Due::Tick((rank - FIRST_TICK) as u8)
         } else {
-            Due::Look((place - FIRST_LOOK) as u8)
+            Due::Look((rank - FIRST_LOOK) as u8)
         }
     }
 }

@@ -1,13 +1,13 @@
 //! When each thing is due.
 ghost use Rattle.std.specs.Prelude.{◌≡◌, ℕ, ◌+◌, ◌/◌, ◌<◌, ◌≤◌, length, IfOk, IfSome, IfNone, slice_index};
-ghost use Rattle.bq_workload.specs.Minima.{due_number, at_place, AreNever, ChangesOnly, IsFirstDue, HasMinima, HasOtherMinima};
+ghost use Rattle.bq_workload.specs.Minima.{due_number, at_rank, AreNever, ChangesOnly, IsFirstDue, HasMinima, HasOtherMinima};
 ghost use Rattle.bq_disc.specs.declared.clock.TheConstants.{LATEST};
 
-use crate::due::PLACES;
+use crate::due::RANKS;
 use std::alloc::{AllocError, Global};
 use std::marker::Model;
 
-/// How many leaves the tree has: a power of two that is more than the number of places.
+/// How many leaves the tree has: a power of two that is more than the number of ranks.
 const LEAVES: usize = 2048;
 
 /// How many numbers the tree is written as: its leaves, and as many before them, of which the first has no use.
@@ -19,11 +19,11 @@ const INSTANT: u64 = LEAVES as u64;
 /// The number of what is never due.
 const NEVER: u64 = u64::MAX;
 
-/// The time at which the thing at each place is due, if it is. Contracts see one number for each place: the time and
-/// the place together, or `never_due`.
+/// The time at which the thing at each rank is due, if it is. Contracts see one number for each rank: the time and
+/// the rank together, or `never_due`.
 ///
 /// The numbers are the leaves of a tree, in which each node has the less of the two below it. So the root has the first. The
-/// leaves after the places are never due.
+/// leaves after the ranks are never due.
 #[derive(Drop)]
 pub struct EventQueue {
     numbers: Vec<u64>,
@@ -32,13 +32,13 @@ pub struct EventQueue {
 impl Model for EventQueue {
     ghost use Rattle.std.specs.Prelude.{◌≡◌, List, ℕ, length};
     ghost use Rattle.bq_workload.specs.declared.event_queue.TheConstants.{NODES};
-    ghost use Rattle.bq_workload.specs.Minima.{HasMinima, AreLeavesPlaced, HasSpareLeaves};
+    ghost use Rattle.bq_workload.specs.Minima.{HasMinima, AreLeavesRanked, HasSpareLeaves};
 
     ghost Value = { List ℕ };
 
     ghost view = { λ a. a.numbers.items };
 
-    ghost invariant = { λ a. (length a.numbers.items ≡ NODES) × HasMinima a.numbers.items × AreLeavesPlaced a.numbers.items × HasSpareLeaves a.numbers.items };
+    ghost invariant = { λ a. (length a.numbers.items ≡ NODES) × HasMinima a.numbers.items × AreLeavesRanked a.numbers.items × HasSpareLeaves a.numbers.items };
 }
 
 impl EventQueue {
@@ -51,15 +51,15 @@ impl EventQueue {
         })
     }
 
-    /// What is at a place is due at this time from now on, or never.
-    pub fn set(&mut self, place: u16, time: Option<u64>)
-        requires place { place < PLACES }
+    /// What is at a rank is due at this time from now on, or never.
+    pub fn set(&mut self, rank: u16, time: Option<u64>)
+        requires rank { rank < RANKS }
         requires time { IfSome time (λ t. t ≤ LATEST) }
-        ensures due { at_place self.new place ≡ due_number place time }
-        ensures others { ChangesOnly place self.old self.new }
+        ensures due { at_rank self.new rank ≡ due_number rank time }
+        ensures others { ChangesOnly rank self.old self.new }
     {
-        let leaf = LEAVES + usize::from(place);
-        let number = number_of(place, time);
+        let leaf = LEAVES + usize::from(rank);
+        let number = number_of(rank, time);
         if self.numbers[leaf] == number {
             return;
         }
@@ -67,11 +67,11 @@ impl EventQueue {
         recompute(&mut self.numbers, leaf);
     }
 
-    /// The time at which something is due first, and its place: the least place if several are due then.
+    /// The time at which something is due first, and its rank: the least rank if several are due then.
     pub fn first(&self) -> Option<(u64, u16)>
         ensures none { IfNone result (AreNever self.now) }
         ensures first { IfSome result (λ due. IsFirstDue self.now due.0 due.1) }
-        ensures place { IfSome result (λ due. due.1 < PLACES) }
+        ensures rank { IfSome result (λ due. due.1 < RANKS) }
     {
         let number = self.numbers[1];
         if number == NEVER {
@@ -81,15 +81,15 @@ impl EventQueue {
     }
 }
 
-/// The number that orders a place in the tree, by its time; `never_due` without one.
-fn number_of(place: u16, time: Option<u64>) -> u64
-    requires place { place < LEAVES }
+/// The number that orders a rank in the tree, by its time; `never_due` without one.
+fn number_of(rank: u16, time: Option<u64>) -> u64
+    requires rank { rank < LEAVES }
     requires time { IfSome time (λ t. t ≤ LATEST) }
-    ensures { result ≡ due_number place time }
+    ensures { result ≡ due_number rank time }
 {
     match time {
         None => NEVER,
-        Some(time) => time * INSTANT + u64::from(place),
+        Some(time) => time * INSTANT + u64::from(rank),
     }
 }
 

@@ -15,7 +15,7 @@ impl Roster {
     /// task has run past its phase.
     pub fn is_over(&self, end: u64) -> bool
         ensures over { result ≡ is_over end (accounts_of self.now) }
-        ensures none { end ≤ LATEST → HaveHomes (accounts_of self.now) → NothingComes end (accounts_of self.now) → result ≡ list_all keeps_phase self.now.by_task.items }
+        ensures nothing_due { end ≤ LATEST → HaveHomes (accounts_of self.now) → NothingComes end (accounts_of self.now) → result ≡ list_all keeps_phase self.now.by_task.items }
     {
         self.all_keep_time(end) && self.all_run_past(end) && self.all_rest_past(end)
     }

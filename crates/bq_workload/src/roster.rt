@@ -1,13 +1,13 @@
 //! All tasks and processors of a simulation.
 ghost use Rattle.std.specs.Prelude.{◌≡◌, ◌<◌, ◌≤◌, ◌++◌, [], ◌∷◌, min, None, Some, IfOk, IfErr, IfSome, MatchOption, OnOk, option_and_then, slice_get, slice_set, length};
 ghost use Rattle.bq_workload.specs.Accounts.{accounts_of, first_look, opening_accounts};
-ghost use Rattle.bq_workload.specs.Dues.{AreLooks, IsDropped, IsDue, IsPlanned, due_place, until};
+ghost use Rattle.bq_workload.specs.Dues.{AreLooks, IsDropped, IsDue, IsPlanned, due_rank, until};
 ghost use Rattle.bq_workload.specs.Minima.{AreNever, IsFirstDue};
 ghost use Rattle.bq_workload.specs.Next.{IsAgreed, IsNextDue, NothingComes};
 
 use crate::broken_invariant::BrokenInvariant;
 use crate::clocks::first_look;
-use crate::due::PLACES;
+use crate::due::RANKS;
 use crate::periods::Periods;
 use crate::processor_state::ProcessorState;
 use crate::progress::TaskProgress;
@@ -92,12 +92,12 @@ impl Roster {
 
     /// What comes due first, and when.
     pub fn first(&self) -> Option<(u64, Due)>
-        ensures first { MatchOption result (AreNever self.now.event_queue) (λ d. IsFirstDue self.now.event_queue d.0 (due_place d.1)) }
+        ensures first { MatchOption result (AreNever self.now.event_queue) (λ d. IsFirstDue self.now.event_queue d.0 (due_rank d.1)) }
         ensures next { IsAgreed self.now → MatchOption result (NothingComes self.now.periods.end (accounts_of self.now)) (λ d. IsNextDue self.now.periods.end (accounts_of self.now) d.1 d.0) }
     {
         match self.event_queue.first() {
             None => None,
-            Some((time, place)) => Some((time, Due::at(place))),
+            Some((time, rank)) => Some((time, Due::at(rank))),
         }
     }
 
@@ -109,8 +109,8 @@ impl Roster {
         ensures by_processor { self.new.by_processor ≡ self.old.by_processor }
         ensures periods { self.new.periods ≡ self.old.periods }
     {
-        let place = place_of(due)?;
-        self.event_queue.set(place, until(self.periods.end, time));
+        let rank = rank_of(due)?;
+        self.event_queue.set(rank, until(self.periods.end, time));
         Ok(())
     }
 
@@ -122,8 +122,8 @@ impl Roster {
         ensures by_processor { self.new.by_processor ≡ self.old.by_processor }
         ensures periods { self.new.periods ≡ self.old.periods }
     {
-        let place = place_of(due)?;
-        self.event_queue.set(place, None);
+        let rank = rank_of(due)?;
+        self.event_queue.set(rank, None);
         Ok(())
     }
 }
@@ -145,14 +145,14 @@ fn plan_looks(event_queue: &mut EventQueue, processors: u8, time: Option<u64>)
     ensures { AreLooks processors time event_queue.new }
 {
     'processors: for processor in 0..processors {
-        event_queue.set(Due::Look(processor).place(), time);
+        event_queue.set(Due::Look(processor).rank(), time);
     }
 }
 
-/// The place of what comes due.
-fn place_of(due: Due) -> Result<u16, BrokenInvariant>
-    ensures place { IfOk result (λ place. place ≡ due_place due) }
-    ensures few { IfOk result (λ place. place < PLACES) }
+/// The rank of what comes due.
+fn rank_of(due: Due) -> Result<u16, BrokenInvariant>
+    ensures rank { IfOk result (λ rank. rank ≡ due_rank due) }
+    ensures few { IfOk result (λ rank. rank < RANKS) }
     ensures due { OnOk result (IsDue due) }
     ensures stray { IfErr result (λ _. IsDue due → ⊥) }
 {
@@ -163,5 +163,5 @@ fn place_of(due: Due) -> Result<u16, BrokenInvariant>
     if !is_due {
         return Err(BrokenInvariant);
     }
-    Ok(due.place())
+    Ok(due.rank())
 }

@@ -24,7 +24,7 @@ returns-in-Ok-clause-gathered c =
     let policies = c.args.policies.now in
     let w = with_seed c.args.workload.now c.args.seed in
     let all = gathers_simulation old new policies w none empty c.in-Ok.ensures.reported c.in-Ok.ensures.wants in
-    subst (λ (most : ℕ). IsGathered policies w most new.sink.schedule new.sink.latencies) c.new-limited.ensures.left all
+    subst (λ (event_limit : ℕ). IsGathered policies w event_limit new.sink.schedule new.sink.latencies) c.new-limited.ensures.left all
 
 -- where the limit was passed, more came
 pub returns-in-Err-clause-fault : goal.returns-in-Err-clause-fault
@@ -32,10 +32,10 @@ returns-in-Err-clause-fault c =
     let policies = c.args.policies.now in
     let w = with_seed c.args.workload.now c.args.seed in
     let stated = c.in-Err.ensures in
-    let more : c.in-Err.fault ≡ Enough → IsLonger policies w c.args.most = λ enough.
+    let more : c.in-Err.fault ≡ Enough → IsLonger policies w c.args.event_limit = λ enough.
     let got = stated.enough enough in
-    subst (λ (most : ℕ). IsLonger policies w most) c.new-limited.ensures.left
+    subst (λ (event_limit : ℕ). IsLonger policies w event_limit) c.new-limited.ensures.left
     (longer Takes c.new-limited.result c.simulate_seed.new.sink policies w (sym stated.flaw ∙ ap reported_flaw enough)
     c.new-limited.ensures.over got.0 got.1) in
-    subst (IsNoRun policies w c.args.most) (sym c.from.ensures)
-    (refused_is_no_run policies w c.args.most c.in-Err.fault stated.flaw stated.ends more)
+    subst (IsNoRun policies w c.args.event_limit) (sym c.from.ensures)
+    (refused_is_no_run policies w c.args.event_limit c.in-Err.fault stated.flaw stated.ends more)

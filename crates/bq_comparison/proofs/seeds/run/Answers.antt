@@ -10,6 +10,6 @@ returns-clause-fault c =
     let e = c.args.experiment.now in
     let g = c.in_ok-gathered.gathered in
     let there =
-    schedule_gathered e.policies.now (with_seed e.workload.now c.args.seed) e.most g.schedule
+    schedule_gathered e.policies.now (with_seed e.workload.now c.args.seed) e.event_limit g.schedule
     g.latencies c.in_ok-gathered.ensures.gathered in
     absurd (true≢false (sym (subst IsSome c.in-None.is there)))

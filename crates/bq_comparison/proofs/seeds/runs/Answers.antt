@@ -15,7 +15,7 @@ numbers-preserved g c =
     let wave : length before + length results ≤ c.from-count.result = search (rules, arith) in
     record {
       runs_are =
-          AreRuns-come c.args.experiment.now.policies.now w c.args.experiment.now.most c.args.experiment.now.figures.now
+          AreRuns-come c.args.experiment.now.policies.now w c.args.experiment.now.event_limit c.args.experiment.now.figures.now
           w.machine.seed _ before after results next c.numbers.invariant.runs_are c.in_ok-results.ensures.results comes;
       low = omega (arith, count, wave);
     }
@@ -30,5 +30,5 @@ returns-in_err-add_all-clause-fault g c =
     let wave : length before + length results ≤ c.from-count.result = search (rules, arith) in
     let few : length before + length results ≤ c.args.count = omega (arith, wave, c.from-count.ensures) in
     let p = err_from_is_err_and c.from_residual-in_err-add_all.result c.from_residual-in_err-add_all.ensures.1 in
-    rw (p.1, p.2) (none_comes e.policies.now e.workload.now e.most e.figures.now _ (length before) c.args.count results
+    rw (p.1, p.2) (none_comes e.policies.now e.workload.now e.event_limit e.figures.now _ (length before) c.args.count results
     c.in_err-add_all.field-0.0 next few c.in_ok-results.ensures.results c.in_err-add_all.ensures.fault)

@@ -4,7 +4,7 @@ use Rattle.bq_comparison.proofs.seeds.runs.Given as goal
 
 abbrev pub invariant-numbers : goal.invariant-numbers
 invariant-numbers g l = record {
-  runs_are : AreFirstRuns l.experiment.policies.now l.experiment.workload.now l.experiment.most l.experiment.figures.now l.runs.items;
+  runs_are : AreFirstRuns l.experiment.policies.now l.experiment.workload.now l.experiment.event_limit l.experiment.figures.now l.runs.items;
   low : length l.runs.items ≤ l.count;
 }
 

@@ -17,7 +17,7 @@ returns-clause-goes_on g c =
     let w = c.args.workload.now in
     let kinds = w.tasks.items in
     let end = w.machine.duration in
-    let ended = c.go_on.new.self in
+    let ended = c.run_until_end.new.self in
     let all = processors_in w.machine.size in
     let admits = AreAllAdmitted all 0 0 kinds in
     let policies = c.args.policies.now in
@@ -33,8 +33,8 @@ returns-clause-goes_on g c =
     let was = c.args.self.now in
     let mid = c.admit.new.self in
     let met =
-    subst (λ (n : ℕ). GoesOnFromBook takes kinds (AreMet kinds mid.seed mid.roster.periods n end) c.admit.new.sink mid c.go_on.new.sink ended)
-    c.most_steps.ensures c.in_ok-go_on.ensures.goes_on in
+    subst (λ (n : ℕ). GoesOnFromBook takes kinds (AreMet kinds mid.seed mid.roster.periods n end) c.admit.new.sink mid c.run_until_end.new.sink ended)
+    c.most_steps.ensures c.in_ok-run_until_end.ensures.goes_on in
     Proceeds-join takes policies all kinds (most_steps w) end _ _ _ was mid ended opened met
 
 pub returns-in_err-install-clause-ends : goal.returns-in_err-install-clause-ends
@@ -61,8 +61,8 @@ returns-in_err-tasks-clause-ends g c = λ starts.
     let all = c.in_ok-admit.ensures.well one in
     absurd (c.in_err-tasks.ensures.stray (all.counted ∙ sym (streams-there w _ _ all)))
 
-pub returns-in_err-go_on-clause-ends : goal.returns-in_err-go_on-clause-ends
-returns-in_err-go_on-clause-ends g c = λ starts.
+pub returns-in_err-run_until_end-clause-ends : goal.returns-in_err-run_until_end-clause-ends
+returns-in_err-run_until_end-clause-ends g c = λ starts.
     let w = c.args.workload.now in
     let one =
     installed-well g.S.Sink.takes _ _ w c.args.policies.now _ _ _ c.processors-processors.ensures
@@ -70,8 +70,8 @@ returns-in_err-go_on-clause-ends g c = λ starts.
     let none = ap (λ v. length v.items) c.in_ok-install.ensures.firsts ∙ starts.none in
     let all = c.in_ok-admit.ensures.well one in
     let many = all.opening.agree.mirrors.processors.many ∙ all.opening.processors_there in
-    let early = c.in_err-go_on.ensures.ends (opened-well w _ (c.in_ok-admit.ensures.firsts none) all) many c.most_steps.ensures in
-    err-by c.from_residual-in_err-go_on.result c.from_residual-in_err-go_on.ensures.1 (λ e is. subst (λ x. EndsEarly w x) (sym is) early)
+    let early = c.in_err-run_until_end.ensures.ends (opened-well w _ (c.in_ok-admit.ensures.firsts none) all) many c.most_steps.ensures in
+    err-by c.from_residual-in_err-run_until_end.result c.from_residual-in_err-run_until_end.ensures.1 (λ e is. subst (λ x. EndsEarly w x) (sym is) early)
 
 pub returns-clause-well : goal.returns-clause-well
 returns-clause-well g c = λ starts.
@@ -80,16 +80,16 @@ returns-clause-well g c = λ starts.
     installed-well g.S.Sink.takes _ _ w c.args.policies.now _ _ _ c.processors-processors.ensures
     c.in_ok-install.ensures.goes_on c.in_ok-install.ensures.counts starts.opens in
     let none = ap (λ v. length v.items) c.in_ok-install.ensures.firsts ∙ starts.none in
-    c.in_ok-go_on.ensures.well (opened-well w _ (c.in_ok-admit.ensures.firsts none) (c.in_ok-admit.ensures.well one))
+    c.in_ok-run_until_end.ensures.well (opened-well w _ (c.in_ok-admit.ensures.firsts none) (c.in_ok-admit.ensures.well one))
 
--- a fault for memory is not the fault that there is no end
-pub returns-in_err-install-clause-endless : goal.returns-in_err-install-clause-endless
-returns-in_err-install-clause-endless g c = λ starts.
+-- a fault for memory is not the fault that there are too many steps
+pub returns-in_err-install-clause-too_many_steps : goal.returns-in_err-install-clause-too_many_steps
+returns-in_err-install-clause-too_many_steps g c = λ starts.
     let wants = c.in_err-install.ensures.ends c.args.workload.now starts c.processors-processors.ensures in
     err-by c.from_residual.result c.from_residual.ensures.1 (λ e is ends. absurd (wants-no-end (sym (is ∙ wants) ∙ ends)))
 
-pub returns-in_err-admit-clause-endless : goal.returns-in_err-admit-clause-endless
-returns-in_err-admit-clause-endless g c = λ starts.
+pub returns-in_err-admit-clause-too_many_steps : goal.returns-in_err-admit-clause-too_many_steps
+returns-in_err-admit-clause-too_many_steps g c = λ starts.
     let w = c.args.workload.now in
     let one =
     installed-well g.S.Sink.takes _ _ w c.args.policies.now _ _ _ c.processors-processors.ensures
@@ -99,8 +99,8 @@ returns-in_err-admit-clause-endless g c = λ starts.
     err-by c.from_residual-in_err-admit.result c.from_residual-in_err-admit.ensures.1
     (λ e is ends. absurd (wants-no-end (sym (is ∙ wants) ∙ ends)))
 
-pub returns-in_err-tasks-clause-endless : goal.returns-in_err-tasks-clause-endless
-returns-in_err-tasks-clause-endless g c = λ starts.
+pub returns-in_err-tasks-clause-too_many_steps : goal.returns-in_err-tasks-clause-too_many_steps
+returns-in_err-tasks-clause-too_many_steps g c = λ starts.
     let w = c.args.workload.now in
     let one =
     installed-well g.S.Sink.takes _ _ w c.args.policies.now _ _ _ c.processors-processors.ensures
@@ -109,13 +109,13 @@ returns-in_err-tasks-clause-endless g c = λ starts.
     absurd (c.in_err-tasks.ensures.stray (all.counted ∙ sym (streams-there w _ _ all)))
 
 -- as many things have come due as are counted
-pub returns-in_err-go_on-clause-endless : goal.returns-in_err-go_on-clause-endless
-returns-in_err-go_on-clause-endless g c = λ starts.
+pub returns-in_err-run_until_end-clause-too_many_steps : goal.returns-in_err-run_until_end-clause-too_many_steps
+returns-in_err-run_until_end-clause-too_many_steps g c = λ starts.
     let takes = g.S.Sink.takes in
     let w = c.args.workload.now in
     let kinds = w.tasks.items in
     let end = w.machine.duration in
-    let ended = c.go_on.new.self in
+    let ended = c.run_until_end.new.self in
     let all = processors_in w.machine.size in
     let admits = AreAllAdmitted all 0 0 kinds in
     let policies = c.args.policies.now in
@@ -135,9 +135,9 @@ returns-in_err-go_on-clause-endless g c = λ starts.
     c.in_ok-install.ensures.counts starts.opens in
     let none = ap (λ v. length v.items) c.in_ok-install.ensures.firsts ∙ starts.none in
     let well = opened-well w _ (c.in_ok-admit.ensures.firsts none) (c.in_ok-admit.ensures.well one) in
-    err-by c.from_residual-in_err-go_on.result c.from_residual-in_err-go_on.ensures.1 (λ e is ends.
+    err-by c.from_residual-in_err-run_until_end.result c.from_residual-in_err-run_until_end.ensures.1 (λ e is ends.
     let met =
     subst
-    (λ (n : ℕ). GoesOnFromBook takes kinds (AreAllMet kinds mid.seed mid.roster.periods n end) c.admit.new.sink mid c.go_on.new.sink ended)
-    c.most_steps.ensures (c.in_err-go_on.ensures.endless well (sym is ∙ ends)) in
+    (λ (n : ℕ). GoesOnFromBook takes kinds (AreAllMet kinds mid.seed mid.roster.periods n end) c.admit.new.sink mid c.run_until_end.new.sink ended)
+    c.most_steps.ensures (c.in_err-run_until_end.ensures.too_many_steps well (sym is ∙ ends)) in
     ProceedsBy-join takes policies all kinds (most_steps w) end _ _ _ was mid ended opened met)

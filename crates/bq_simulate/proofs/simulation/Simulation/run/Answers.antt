@@ -27,7 +27,7 @@ returns-clause-runs g c =
       sink = c.proceed.new.sink;
       ended = ended;
       proceeds = c.in_ok-tasks.ensures.goes_on;
-      none = c.in_ok-tasks.ensures.none (sym c.has_enough.ensures ∙ c.if-has_enough.false);
+      nothing_due = c.in_ok-tasks.ensures.nothing_due (sym c.has_enough.ensures ∙ c.if-has_enough.false);
       over = sym c.is_over.ensures.over ∙ c.if-not-is_over.false;
       ticks =
           GoesOnBy-weaker g.S.Sink.takes kinds _ _ (λ xs are. subst (λ (n : ℕ). ticks n xs) c.processors-processors.ensures are)
@@ -45,10 +45,10 @@ returns-then-not-is_over-clause-ends g c = λ starts.
     let w = c.args.workload.now in
     let ended = c.proceed.new.self in
     let gone = c.in_ok-tasks.ensures.well starts in
-    let none = c.in_ok-tasks.ensures.none (sym c.has_enough.ensures ∙ c.if-has_enough.false) gone.well.agreed in
+    let none = c.in_ok-tasks.ensures.nothing_due (sym c.has_enough.ensures ∙ c.if-has_enough.false) gone.well.agreed in
     let left = subst (λ (p : Periods). NothingComes p.end (accounts_of ended.roster)) gone.well.periods none in
     let over =
-    c.is_over.ensures.none (sound_times w gone.well.sound).duration gone.well.agreed.homes left
+    c.is_over.ensures.nothing_due (sound_times w gone.well.sound).duration gone.well.agreed.homes left
     ∙ keep_phases gone.now (accounts_of ended.roster) gone.well.kept.on_time in
     absurd (true≢false (sym over ∙ c.if-not-is_over.true))
 
@@ -57,7 +57,7 @@ returns-in_err-finish-clause-ends g c = λ starts.
     let w = c.args.workload.now in
     let ended = c.proceed.new.self in
     let gone = c.in_ok-tasks.ensures.well starts in
-    let none = c.in_ok-tasks.ensures.none (sym c.has_enough.ensures ∙ c.if-has_enough.false) gone.well.agreed in
+    let none = c.in_ok-tasks.ensures.nothing_due (sym c.has_enough.ensures ∙ c.if-has_enough.false) gone.well.agreed in
     let was = c.args.self.now in
     let there =
     processors-there g.S.Sink.takes (ProceedsIn c.args.policies.now w was.seed was.roster.periods) _ _ w 0 _ _
@@ -68,18 +68,18 @@ returns-in_err-finish-clause-ends g c = λ starts.
     (omega (arith, c.processors-processors.ensures, there, many)) in
     err-by c.from_residual-in_err-finish.result c.from_residual-in_err-finish.ensures.1 (λ e is. inl (is ∙ wants))
 
-pub returns-in_err-tasks-clause-endless : goal.returns-in_err-tasks-clause-endless
-returns-in_err-tasks-clause-endless g c =
+pub returns-in_err-tasks-clause-too_many_steps : goal.returns-in_err-tasks-clause-too_many_steps
+returns-in_err-tasks-clause-too_many_steps g c =
     λ starts.
     err-by c.from_residual.result c.from_residual.ensures.1
-    (λ e is ends. c.in_err-tasks.ensures.endless starts (sym is ∙ ends))
+    (λ e is ends. c.in_err-tasks.ensures.too_many_steps starts (sym is ∙ ends))
 
-pub returns-in_err-finish-clause-endless : goal.returns-in_err-finish-clause-endless
-returns-in_err-finish-clause-endless g c = λ starts.
+pub returns-in_err-finish-clause-too_many_steps : goal.returns-in_err-finish-clause-too_many_steps
+returns-in_err-finish-clause-too_many_steps g c = λ starts.
     let w = c.args.workload.now in
     let ended = c.proceed.new.self in
     let gone = c.in_ok-tasks.ensures.well starts in
-    let none = c.in_ok-tasks.ensures.none (sym c.has_enough.ensures ∙ c.if-has_enough.false) gone.well.agreed in
+    let none = c.in_ok-tasks.ensures.nothing_due (sym c.has_enough.ensures ∙ c.if-has_enough.false) gone.well.agreed in
     let was = c.args.self.now in
     let there =
     processors-there g.S.Sink.takes (ProceedsIn c.args.policies.now w was.seed was.roster.periods) _ _ w 0 _ _

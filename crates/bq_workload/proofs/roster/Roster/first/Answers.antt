@@ -9,4 +9,4 @@ returns-in-None-clause-next c =
 pub returns-in-Some-clause-next : goal.returns-in-Some-clause-next
 returns-in-Some-clause-next c =
     first-next c.args.self.now.periods.end (accounts_of c.args.self.now) c.args.self.now.event_queue c.in-Some.time
-    c.in-Some.place c.at.result c.in-Some.ensures.first c.at.ensures
+    c.in-Some.rank c.at.result c.in-Some.ensures.first c.at.ensures

@@ -8,7 +8,7 @@ use Rattle.bq_simulate.specs.Simulations.{Accepted, IsFollowed, IsSimulation}
 use Rattle.bq_experiment.specs.Names.{comments_of}
 use Rattle.bq_experiment.specs.Traces.{skipped}
 use Rattle.bq_experiment.proofs.ViewLemmas.{no_other}
-use Rattle.bq_experiment.proofs.running.simulate_into.Goals as goal
+use Rattle.bq_experiment.proofs.one_run.simulate_into.Goals as goal
 
 pub returns-clause-reported : goal.returns-clause-reported
 returns-clause-reported g c =

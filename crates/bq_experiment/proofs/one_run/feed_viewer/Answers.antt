@@ -7,7 +7,7 @@ use Rattle.bq_experiment.specs.Limits.{IsLonger}
 use Rattle.bq_experiment.specs.Views.{IsViewed}
 use Rattle.bq_experiment.proofs.LimitLemmas.{longer}
 use Rattle.bq_experiment.proofs.ViewLemmas.{TakesRun, no_other, run_viewed}
-use Rattle.bq_experiment.proofs.running.feed_viewer.Goals as goal
+use Rattle.bq_experiment.proofs.one_run.feed_viewer.Goals as goal
 
 pub returns-clause-viewed : goal.returns-clause-viewed
 returns-clause-viewed g c =

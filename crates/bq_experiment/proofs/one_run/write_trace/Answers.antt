@@ -7,7 +7,7 @@ use Rattle.bq_experiment.specs.Limits.{IsLonger}
 use Rattle.bq_experiment.specs.Standing.{image_for}
 use Rattle.bq_experiment.proofs.TraceLemmas.{TakesRun, longer_named, run_written}
 use Rattle.bq_experiment.proofs.ViewLemmas.{IsStopped-by}
-use Rattle.bq_experiment.proofs.running.write_trace.Goals as goal
+use Rattle.bq_experiment.proofs.one_run.write_trace.Goals as goal
 
 pub returns-in-Ok-write_text-clause-written : goal.returns-in-Ok-write_text-clause-written
 returns-in-Ok-write_text-clause-written g c =

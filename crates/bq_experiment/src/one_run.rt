@@ -35,7 +35,7 @@ use std::io::Write;
 
 /// The streams to which a run is written: its text, its notes, and its progress.
 #[derive(Drop)]
-pub struct Streams<'a, W, E> {
+pub struct RunStreams<'a, W, E> {
     pub output: W,
     pub errors: E,
     pub progress: &'a ProgressLine<'a>,
@@ -52,17 +52,17 @@ pub struct FinishedRun<W> {
 type RunSink<'a, S, W, E> = Limited<Passing<'a, S, W, E>>;
 
 /// Runs a workload with these policies at all processors, and writes what is asked for as it comes. A run of more events than
-/// `most` is cut off there, and what was written stays written, in whole lines. Notes go to standard error as they come; a note
-/// that cannot be written stops nothing.
+/// `event_limit` is cut off there, and what was written stays written, in whole lines. Notes go to standard error as they come;
+/// a note that cannot be written stops nothing.
 pub fn run_as<W: Write + Drop, E: Write + Drop>(
     alloc: Global,
     workload: &Workload,
     policies: &Policies,
     shown: ShownAs,
-    most: u64,
-    streams: Streams<'_, W, E>,
+    event_limit: u64,
+    streams: RunStreams<'_, W, E>,
 ) -> FinishedRun<W>
-    ensures written { IfOk result.outcome (λ notes. IsWritten shown workload.now policies.now most
+    ensures written { IfOk result.outcome (λ notes. IsWritten shown workload.now policies.now event_limit
         (W.contents streams.entry.output) (W.contents (counted_inner result.output)) (string_bytes notes)) }
 
     // After a run that came to its end no write has failed: the first failure ends a run.
@@ -71,52 +71,52 @@ pub fn run_as<W: Write + Drop, E: Write + Drop>(
     // Each fault has its cause. A flaw that is reported is the first of the workload. The simulation of a workload without a
     // flaw fails only if memory runs out, or if 64 bits do not count the bound of its steps. Only a run with more events is cut
     // off.
-    ensures fault { IfErr result.outcome (λ e. IsRunFault policies.now.loaded workload.now most e (failures_of result.output)) }
+    ensures fault { IfErr result.outcome (λ e. IsRunFault policies.now.loaded workload.now event_limit e (failures_of result.output)) }
 {
     match shown {
-        ShownAs::Trace => as_trace(alloc, workload, policies, most, streams),
+        ShownAs::Trace => as_trace(alloc, workload, policies, event_limit, streams),
         ShownAs::Timeline(settings) => {
-            as_timeline(alloc, workload, policies, settings, most, streams)
+            as_timeline(alloc, workload, policies, settings, event_limit, streams)
         }
     }
 }
 
-/// The sink of a run: it writes what comes, and has enough after `most` events.
+/// The sink of a run: it writes what comes, and has enough after `event_limit` events.
 fn sink_of_run<'a, S, W, E>(
     workload: &Workload,
     sink: S,
-    most: u64,
-    streams: Streams<'a, W, E>,
+    event_limit: u64,
+    streams: RunStreams<'a, W, E>,
 ) -> RunSink<'a, S, W, E>
     ensures sink { result.sink.sink ≡ sink }
     ensures output { counted_inner result.sink.output ≡ streams.entry.output }
-    ensures left { result.left ≡ most }
+    ensures left { result.left ≡ event_limit }
     ensures over { result.is_over ≡ false }
 {
-    let Streams {
+    let RunStreams {
         output,
         errors,
         progress,
     } = streams;
     let progress = RunProgress::new(workload, progress);
-    Limited::new(Passing::new(sink, output, errors, progress), most)
+    Limited::new(Passing::new(sink, output, errors, progress), event_limit)
 }
 
-/// Writes its events as a trace, after comments that name the tasks.
+/// Writes the events of a run as a trace, after comments that name the tasks.
 fn as_trace<W: Write + Drop, E: Write + Drop>(
     alloc: Global,
     workload: &Workload,
     policies: &Policies,
-    most: u64,
-    streams: Streams<'_, W, E>,
+    event_limit: u64,
+    streams: RunStreams<'_, W, E>,
 ) -> FinishedRun<W>
-    ensures written { IfOk result.outcome (λ notes. IsWritten shown_as.Trace workload.now policies.now most
+    ensures written { IfOk result.outcome (λ notes. IsWritten shown_as.Trace workload.now policies.now event_limit
         (W.contents streams.entry.output) (W.contents (counted_inner result.output)) (string_bytes notes)) }
     ensures writes { OnOk result.outcome (failures_of result.output ≡ 0) }
-    ensures fault { IfErr result.outcome (λ e. IsRunFault policies.now.loaded workload.now most e (failures_of result.output)) }
+    ensures fault { IfErr result.outcome (λ e. IsRunFault policies.now.loaded workload.now event_limit e (failures_of result.output)) }
 {
     let writer = TraceWriter::new(alloc, policies.images());
-    let mut run = sink_of_run(workload, writer, most, streams);
+    let mut run = sink_of_run(workload, writer, event_limit, streams);
     let outcome = match write_trace(alloc, workload, policies, &mut run) {
         Ok(()) => Ok(String::new(alloc)),
         Err(fault) => Err(fault),
@@ -161,9 +161,9 @@ fn simulate_into<S: Sink + Enough>(
     sink: &mut S,
 ) -> Result<(), SimulateFault>
     ensures reported { OnOk result (Gets S.takes sink.old sink.new (IsNamed workload.now (IsSimulation policies.now.loaded workload.now))) }
-    ensures wants { OnOk result (S.sated sink.new ≡ false) }
+    ensures wants { OnOk result (S.has_enough sink.new ≡ false) }
     ensures enough { IfErr result (λ e. e ≡ why.Enough → (first_flaw workload.now ≡ None)
-        × HasEnough S.takes S.sated (IsNamed workload.now (IsFollowed true policies.now.loaded workload.now)) sink.old sink.new) }
+        × HasEnough S.takes S.has_enough (IsNamed workload.now (IsFollowed true policies.now.loaded workload.now)) sink.old sink.new) }
     ensures sound { OnOk result (first_flaw workload.now ≡ None) }
     ensures of_images { OnOk result (AreOfTheirImages policies.now) }
     ensures flaw { IfErr result (ReportsNoOther workload.now) }
@@ -185,7 +185,7 @@ fn write_rest<S: Texts, W: Write, E: Write>(
 {
     if let SimulateFault::Enough = fault {
         return match run.sink.write_text() {
-            Ok(()) => RunFault::Events,
+            Ok(()) => RunFault::TooManyEvents,
             Err(_) => RunFault::Write,
         };
     }
@@ -195,21 +195,26 @@ fn write_rest<S: Texts, W: Write, E: Write>(
     RunFault::Simulation(fault)
 }
 
-/// Shows its schedule by these settings.
+/// Shows the schedule of a run by these settings.
 fn as_timeline<W: Write + Drop, E: Write + Drop>(
     alloc: Global,
     workload: &Workload,
     policies: &Policies,
     settings: Settings,
-    most: u64,
-    streams: Streams<'_, W, E>,
+    event_limit: u64,
+    streams: RunStreams<'_, W, E>,
 ) -> FinishedRun<W>
-    ensures written { IfOk result.outcome (λ notes. AreNotesOf policies.now.loaded workload.now most (string_bytes notes)) }
+    ensures written { IfOk result.outcome (λ notes. AreNotesOf policies.now.loaded workload.now event_limit (string_bytes notes)) }
     ensures writes { OnOk result.outcome (failures_of result.output ≡ 0) }
-    ensures fault { IfErr result.outcome (λ e. IsRunFault policies.now.loaded workload.now most e (failures_of result.output)) }
+    ensures fault { IfErr result.outcome (λ e. IsRunFault policies.now.loaded workload.now event_limit e (failures_of result.output)) }
 {
     let viewer = Viewer::new(alloc, settings);
-    let mut run = sink_of_run(workload, OffsetViewer { viewer, offset: 0 }, most, streams);
+    let mut run = sink_of_run(
+        workload,
+        OffsetViewer { viewer, offset: 0 },
+        event_limit,
+        streams,
+    );
     let outcome = write_timeline(alloc, workload, policies, &mut run);
     let passing = run.sink;
     FinishedRun {

@@ -2,7 +2,7 @@
 use Rattle.std.proofs.Common.{ap, ◌∙◌}
 use Rattle.bq_simulate.specs.Texts.{image_at}
 use Rattle.bq_simulate.specs.declared.trace_writer.TraceWriter.{TraceWriter}
-use Rattle.bq_experiment.proofs.running.as_trace.Goals as goal
+use Rattle.bq_experiment.proofs.one_run.as_trace.Goals as goal
 
 pub write_trace-requires-clause-images : goal.write_trace-requires-clause-images
 write_trace-requires-clause-images g c =

@@ -1,7 +1,7 @@
 -- The notes end with those at the schedule that was viewed.
 use Rattle.std.proofs.Common.{◌++◌, ap, string_bytes, ◌∙◌}
 use Rattle.bq_timeline.specs.Notes.{absent_notes, last_notes}
-use Rattle.bq_experiment.proofs.running.view.Goals as goal
+use Rattle.bq_experiment.proofs.one_run.view.Goals as goal
 
 pub returns-clause-notes : goal.returns-clause-notes
 returns-clause-notes g c =

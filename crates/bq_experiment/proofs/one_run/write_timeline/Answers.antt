@@ -1,7 +1,7 @@
 -- What stopped the view stopped the run.
 use Rattle.bq_experiment.specs.Faults.{IsNoEnd}
 use Rattle.bq_experiment.proofs.ViewLemmas.{IsStopped-by}
-use Rattle.bq_experiment.proofs.running.write_timeline.Goals as goal
+use Rattle.bq_experiment.proofs.one_run.write_timeline.Goals as goal
 
 pub returns-in-Err-clause-fault : goal.returns-in-Err-clause-fault
 returns-in-Err-clause-fault g c =

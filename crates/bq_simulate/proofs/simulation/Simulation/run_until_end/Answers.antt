@@ -11,8 +11,8 @@ use Rattle.bq_simulate.proofs.BookLemmas.{met-more}
 use Rattle.bq_simulate.proofs.StepLemmas.{AreMet-none}
 use Rattle.bq_simulate.proofs.WellLemmas.{comes-well, err-by, met-well, wants-no-end}
 use Rattle.bq_simulate.proofs.WholeLemmas.{GoesOnFromBook-all, GoesOnFromBook-within}
-use Rattle.bq_simulate.proofs.simulation.Simulation.go_on.Goals as goal
-use Rattle.bq_simulate.proofs.simulation.Simulation.go_on.Goals.{then-now-last-via-then-now-last, then-now-last-via-else-now-last+then-now-end}
+use Rattle.bq_simulate.proofs.simulation.Simulation.run_until_end.Goals as goal
+use Rattle.bq_simulate.proofs.simulation.Simulation.run_until_end.Goals.{then-now-last-via-then-now-last, then-now-last-via-else-now-last+then-now-end}
 
 pub steps-preserved : goal.steps-preserved
 steps-preserved g c =
@@ -29,19 +29,19 @@ steps-preserved g c =
     record {
       goes_on =
           met-more g.S.Sink.takes c.args.workload.now.tasks.items count last now due _ _ _ _ _ _ later next
-          c.steps.invariant.goes_on c.in_ok-meet.ensures.goes_on;
+          c.steps.invariant.goes_on c.in_ok-handle_due.ensures.goes_on;
       within = omega (arith, c.if-now-end.false);
       well = λ begins.
           let w = c.args.workload.now in
           let well = c.steps.invariant.well begins in
           let comes = comes-well w last now due c.steps.self well (next well.agreed) in
-          met-well g.S.Sink.takes _ _ w due now _ _ c.in_ok-meet.ensures.goes_on comes.2;
+          met-well g.S.Sink.takes _ _ w due now _ _ c.in_ok-handle_due.ensures.goes_on comes.2;
       counted = λ begins many.
           let w = c.args.workload.now in
           let well = c.steps.invariant.well begins in
           let was = c.steps.invariant.counted begins many in
           let comes = comes-well w last now due c.steps.self well (next well.agreed) in
-          counted-well g.S.Sink.takes _ _ w due count last now _ _ later (next well.agreed) c.in_ok-meet.ensures.goes_on comes.2 was.0 was.1;
+          counted-well g.S.Sink.takes _ _ w due count last now _ _ later (next well.agreed) c.in_ok-handle_due.ensures.goes_on comes.2 was.0 was.1;
     }
 
 pub steps-init : goal.steps-init
@@ -57,8 +57,8 @@ steps-init g c =
       counted = λ begins many. (many, none-came c.args.workload.now was.driver (book_of was begins.drawn) begins.sound begins.kept many);
     }
 
-pub returns-in_default-clause-none : goal.returns-in_default-clause-none
-returns-in_default-clause-none g c =
+pub returns-in_default-clause-nothing_due : goal.returns-in_default-clause-nothing_due
+returns-in_default-clause-nothing_due g c =
     let here = c.steps.self.roster in
     λ wants agreed.
     MatchOption-at_none (NothingComes here.periods.end (accounts_of here))
@@ -67,20 +67,20 @@ returns-in_default-clause-none g c =
 pub returns-in_default-clause-goes_on : goal.returns-in_default-clause-goes_on
 returns-in_default-clause-goes_on g c =
     let was = c.args.self.now in
-    let few : c.steps.counter ≤ c.args.most = omega (arith, c.steps-test.true) in
-    GoesOnFromBook-within g.S.Sink.takes c.args.workload.now.tasks.items was.seed was.roster.periods c.steps.counter c.args.most
+    let few : c.steps.counter ≤ c.args.step_limit = omega (arith, c.steps-test.true) in
+    GoesOnFromBook-within g.S.Sink.takes c.args.workload.now.tasks.items was.seed was.roster.periods c.steps.counter c.args.step_limit
     c.steps.last c.args.workload.now.machine.duration _ _ _ _ few c.steps.invariant.within c.steps.invariant.goes_on
 
 pub returns-then-has_enough-clause-goes_on : goal.returns-then-has_enough-clause-goes_on
 returns-then-has_enough-clause-goes_on g c =
     let was = c.args.self.now in
-    let few : c.steps.counter ≤ c.args.most = omega (arith, c.steps-test.true) in
-    GoesOnFromBook-within g.S.Sink.takes c.args.workload.now.tasks.items was.seed was.roster.periods c.steps.counter c.args.most
+    let few : c.steps.counter ≤ c.args.step_limit = omega (arith, c.steps-test.true) in
+    GoesOnFromBook-within g.S.Sink.takes c.args.workload.now.tasks.items was.seed was.roster.periods c.steps.counter c.args.step_limit
     c.steps.last c.args.workload.now.machine.duration _ _ _ _ few c.steps.invariant.within c.steps.invariant.goes_on
 
 -- what comes next is neither past nor beyond the end
-pub returns-in_err-meet-clause-ends : goal.returns-in_err-meet-clause-ends
-returns-in_err-meet-clause-ends g c = λ begins many bound.
+pub returns-in_err-handle_due-clause-ends : goal.returns-in_err-handle_due-clause-ends
+returns-in_err-handle_due-clause-ends g c = λ begins many bound.
     let w = c.args.workload.now in
     let here = c.steps.self.roster in
     let due = c.in-Some.due in
@@ -90,7 +90,7 @@ returns-in_err-meet-clause-ends g c = λ begins many bound.
     MatchOption-at_some (NothingComes here.periods.end (accounts_of here))
     (λ d. IsNextDue here.periods.end (accounts_of here) d.1 d.0) (now, due) c.in-Some.is (c.first.ensures.next well.agreed) in
     let wants =
-    c.in_err-meet.ensures.ends (comes-well w c.steps.last now due c.steps.self well next).2
+    c.in_err-handle_due.ensures.ends (comes-well w c.steps.last now due c.steps.self well next).2
     (subst (λ (p : Periods). IsNextDue p.end (accounts_of here) due now) well.periods next) in
     err-by c.from_residual.result c.from_residual.ensures.1 (λ e is. inl (is ∙ wants))
 
@@ -115,16 +115,16 @@ pub returns-clause-ends : goal.returns-clause-ends
 returns-clause-ends g c = λ begins many bound.
     let w = c.args.workload.now in
     let counted = c.steps.invariant.counted begins many in
-    let all : c.args.most ≤ c.steps.counter = omega (arith, c.steps-test.false) in
+    let all : c.args.step_limit ≤ c.steps.counter = omega (arith, c.steps-test.false) in
     inr (
       refl,
-      bound-passed w c.steps.counter c.steps.last c.args.most (accounts_of c.steps.self.roster) c.steps.invariant.within
+      bound-passed w c.steps.counter c.steps.last c.args.step_limit (accounts_of c.steps.self.roster) c.steps.invariant.within
           all bound counted.1,
     )
 
--- a fault for memory is not the fault that there is no end
-pub returns-in_err-meet-clause-endless : goal.returns-in_err-meet-clause-endless
-returns-in_err-meet-clause-endless g c = λ begins.
+-- a fault for memory is not the fault that there are too many steps
+pub returns-in_err-handle_due-clause-too_many_steps : goal.returns-in_err-handle_due-clause-too_many_steps
+returns-in_err-handle_due-clause-too_many_steps g c = λ begins.
     let w = c.args.workload.now in
     let here = c.steps.self.roster in
     let due = c.in-Some.due in
@@ -134,13 +134,13 @@ returns-in_err-meet-clause-endless g c = λ begins.
     MatchOption-at_some (NothingComes here.periods.end (accounts_of here))
     (λ d. IsNextDue here.periods.end (accounts_of here) d.1 d.0) (now, due) c.in-Some.is (c.first.ensures.next well.agreed) in
     let wants =
-    c.in_err-meet.ensures.ends (comes-well w c.steps.last now due c.steps.self well next).2
+    c.in_err-handle_due.ensures.ends (comes-well w c.steps.last now due c.steps.self well next).2
     (subst (λ (p : Periods). IsNextDue p.end (accounts_of here) due now) well.periods next) in
     err-by c.from_residual.result c.from_residual.ensures.1 (λ e is ends. absurd (wants-no-end (sym (is ∙ wants) ∙ ends)))
 
-pub returns-clause-endless : goal.returns-clause-endless
-returns-clause-endless g c = λ begins is.
+pub returns-clause-too_many_steps : goal.returns-clause-too_many_steps
+returns-clause-too_many_steps g c = λ begins is.
     let was = c.args.self.now in
-    let all : c.steps.counter ≡ c.args.most = omega (arith, c.steps-test.false, c.steps.auto.counter-end) in
-    GoesOnFromBook-all g.S.Sink.takes c.args.workload.now.tasks.items was.seed was.roster.periods c.steps.counter c.args.most
+    let all : c.steps.counter ≡ c.args.step_limit = omega (arith, c.steps-test.false, c.steps.auto.counter-end) in
+    GoesOnFromBook-all g.S.Sink.takes c.args.workload.now.tasks.items was.seed was.roster.periods c.steps.counter c.args.step_limit
     c.steps.last c.args.workload.now.machine.duration _ _ _ _ all c.steps.invariant.within c.steps.invariant.goes_on

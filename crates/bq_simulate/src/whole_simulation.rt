@@ -7,7 +7,7 @@ ghost use Rattle.bq_workload.specs.Next.{IsAgreed, NothingComes};
 ghost use Rattle.bq_workload.specs.Soundness.{first_flaw};
 ghost use Rattle.bq_workload.specs.declared.workload.Workload.{Workload};
 ghost use Rattle.bq_simulate.specs.Faults.{reported_flaw};
-ghost use Rattle.bq_simulate.specs.GoingWell.{EndsEarly, SimulationGoesWell, HasGoneWell, HasProcessors, IfEndless, IsCutOff, StartsWell, WantsMemory};
+ghost use Rattle.bq_simulate.specs.GoingWell.{EndsEarly, SimulationGoesWell, HasGoneWell, HasProcessors, IfTooManySteps, IsCutOff, StartsWell, WantsMemory};
 ghost use Rattle.bq_simulate.specs.Simulations.{GoesOnForAnyKinds, RunsToEnd, RunsToLimit, HasEnough, HasProceeded, IsFollowed, IsSimulation, IsTooLong, ComesToBound, RunsToEndOrEnough, with_seed};
 ghost use Rattle.bq_simulate.specs.Steps.{AreJustEvents, last_ticks};
 ghost use Rattle.bq_simulate.specs.declared.fault.SimulateFault.TheVariants as why;
@@ -40,14 +40,14 @@ pub fn simulate<S: Sink + Enough>(
     sink: &mut S,
 ) -> Result<Counts, SimulateFault>
     ensures reported { OnOk result (Gets S.takes sink.old sink.new (IsSimulation policies.now workload.now)) }
-    ensures wants { OnOk result (S.sated sink.new ≡ false) }
-    ensures enough { IfErr result (λ fault. fault ≡ why.Enough → HasEnough S.takes S.sated (IsFollowed true policies.now workload.now) sink.old sink.new) }
+    ensures wants { OnOk result (S.has_enough sink.new ≡ false) }
+    ensures enough { IfErr result (λ fault. fault ≡ why.Enough → HasEnough S.takes S.has_enough (IsFollowed true policies.now workload.now) sink.old sink.new) }
     ensures tasks { IfOk result (λ counts. counts.tasks ≡ tasks_in workload.now.tasks.items) }
     ensures sound { IfOk result (λ _. first_flaw workload.now ≡ None) }
     ensures flaw { IfErr result (λ fault. reported_flaw fault ≡ first_flaw workload.now) }
     ensures unreported { first_flaw workload.now ≢ None → sink.new ≡ sink.old }
     ensures ends { first_flaw workload.now ≡ None → IfErr result (IsCutOff workload.now) }
-    ensures endless { IfErr result (IfEndless (Gets S.takes sink.old sink.new (IsTooLong policies.now workload.now))) }
+    ensures too_many_steps { IfErr result (IfTooManySteps (Gets S.takes sink.old sink.new (IsTooLong policies.now workload.now))) }
 {
     simulate_seed(alloc, workload, workload.machine.seed, policies, sink)
 }
@@ -61,14 +61,14 @@ pub fn simulate_seed<S: Sink + Enough>(
     sink: &mut S,
 ) -> Result<Counts, SimulateFault>
     ensures reported { OnOk result (Gets S.takes sink.old sink.new (IsSimulation policies.now (with_seed workload.now seed))) }
-    ensures wants { OnOk result (S.sated sink.new ≡ false) }
-    ensures enough { IfErr result (λ fault. fault ≡ why.Enough → HasEnough S.takes S.sated (IsFollowed true policies.now (with_seed workload.now seed)) sink.old sink.new) }
+    ensures wants { OnOk result (S.has_enough sink.new ≡ false) }
+    ensures enough { IfErr result (λ fault. fault ≡ why.Enough → HasEnough S.takes S.has_enough (IsFollowed true policies.now (with_seed workload.now seed)) sink.old sink.new) }
     ensures tasks { IfOk result (λ counts. counts.tasks ≡ tasks_in workload.now.tasks.items) }
     ensures sound { IfOk result (λ _. first_flaw workload.now ≡ None) }
     ensures flaw { IfErr result (λ fault. reported_flaw fault ≡ first_flaw workload.now) }
     ensures unreported { first_flaw workload.now ≢ None → sink.new ≡ sink.old }
     ensures ends { first_flaw workload.now ≡ None → IfErr result (IsCutOff workload.now) }
-    ensures endless { IfErr result (IfEndless (Gets S.takes sink.old sink.new (IsTooLong policies.now (with_seed workload.now seed)))) }
+    ensures too_many_steps { IfErr result (IfTooManySteps (Gets S.takes sink.old sink.new (IsTooLong policies.now (with_seed workload.now seed)))) }
 {
     soundness(workload).map_err(SimulateFault::Unsound)?;
     let counts = match follow(alloc, workload, seed, policies, sink) {
@@ -89,10 +89,10 @@ fn follow<S: Sink + Enough>(
     policies: &[Policy],
     sink: &mut S,
 ) -> Result<Counts, SimulateFault>
-    ensures reported { OnOk result (Gets S.takes sink.old sink.new (IsFollowed (S.sated sink.new) policies.now (with_seed workload.now seed))) }
+    ensures reported { OnOk result (Gets S.takes sink.old sink.new (IsFollowed (S.has_enough sink.new) policies.now (with_seed workload.now seed))) }
     ensures tasks { IfOk result (λ counts. counts.tasks ≡ tasks_in workload.now.tasks.items) }
     ensures ends { first_flaw workload.now ≡ None → IfErr result (EndsEarly workload.now) }
-    ensures endless { first_flaw workload.now ≡ None → IfErr result (IfEndless (Gets S.takes sink.old sink.new (IsTooLong policies.now (with_seed workload.now seed)))) }
+    ensures too_many_steps { first_flaw workload.now ≡ None → IfErr result (IfTooManySteps (Gets S.takes sink.old sink.new (IsTooLong policies.now (with_seed workload.now seed)))) }
 {
     let machine = &workload.machine;
     let driver = Driver::new(alloc, machine.discipline, machine.size, sink)?;
@@ -112,9 +112,9 @@ impl Simulation {
         requires tasks { length self.old.roster.by_task.items ≡ 0 }
         requires streams { length self.old.streams.items ≡ 0 }
         ensures tasks { IfOk result (λ counts. counts.tasks ≡ tasks_in workload.now.tasks.items) }
-        ensures runs { OnOk result (RunsToEndOrEnough S.takes S.sated policies.now workload.now sink.old self.old sink.new self.new) }
+        ensures runs { OnOk result (RunsToEndOrEnough S.takes S.has_enough policies.now workload.now sink.old self.old sink.new self.new) }
         ensures ends { StartsWell workload.now self.old → IfErr result (EndsEarly workload.now) }
-        ensures endless { StartsWell workload.now self.old → IfErr result (IfEndless (ComesToBound S.takes policies.now workload.now sink.old self.old sink.new self.new)) }
+        ensures too_many_steps { StartsWell workload.now self.old → IfErr result (IfTooManySteps (ComesToBound S.takes policies.now workload.now sink.old self.old sink.new self.new)) }
     {
         let tasks = self.proceed(alloc, workload, policies, sink)?;
         if sink.has_enough() {
@@ -139,17 +139,17 @@ impl Simulation {
         requires tasks { length self.old.roster.by_task.items ≡ 0 }
         requires streams { length self.old.streams.items ≡ 0 }
         ensures tasks { IfOk result (λ tasks. tasks ≡ tasks_in workload.now.tasks.items) }
-        ensures none { OnOk result (S.sated sink.new ≡ false → IsAgreed self.new.roster → NothingComes self.new.roster.periods.end (accounts_of self.new.roster)) }
+        ensures nothing_due { OnOk result (S.has_enough sink.new ≡ false → IsAgreed self.new.roster → NothingComes self.new.roster.periods.end (accounts_of self.new.roster)) }
         ensures goes_on { OnOk result (HasProceeded S.takes policies.now workload.now sink.old self.old sink.new self.new) }
         ensures well { OnOk result (StartsWell workload.now self.old → HasGoneWell workload.now self.new) }
         ensures ends { StartsWell workload.now self.old → IfErr result (EndsEarly workload.now) }
-        ensures endless { StartsWell workload.now self.old → IfErr result (IfEndless (ComesToBound S.takes policies.now workload.now sink.old self.old sink.new self.new)) }
+        ensures too_many_steps { StartsWell workload.now self.old → IfErr result (IfTooManySteps (ComesToBound S.takes policies.now workload.now sink.old self.old sink.new self.new)) }
     {
         let processors = workload.machine.size.processors();
         self.install(alloc, processors, policies, sink)?;
         self.admit(alloc, workload, sink)?;
         let tasks = self.tasks()?;
-        self.go_on(alloc, workload, most_steps(workload), sink)?;
+        self.run_until_end(alloc, workload, most_steps(workload), sink)?;
         Ok(tasks)
     }
 
@@ -165,22 +165,22 @@ impl Simulation {
 
     /// Does what comes due, one thing after another, until nothing does or the sink has enough: each is the first that comes by the
     /// accounts. Nothing comes before what came already, or beyond the duration.
-    fn go_on<S: Sink + Enough>(
+    fn run_until_end<S: Sink + Enough>(
         &mut self,
         alloc: Global,
         workload: &Workload,
-        most: u64,
+        step_limit: u64,
         sink: &mut S,
     ) -> Result<(), SimulateFault>
-        ensures none { OnOk result (S.sated sink.new ≡ false → IsAgreed self.new.roster → NothingComes self.new.roster.periods.end (accounts_of self.new.roster)) }
-        ensures goes_on { OnOk result (RunsToEnd S.takes workload.now most sink.old self.old sink.new self.new) }
+        ensures nothing_due { OnOk result (S.has_enough sink.new ≡ false → IsAgreed self.new.roster → NothingComes self.new.roster.periods.end (accounts_of self.new.roster)) }
+        ensures goes_on { OnOk result (RunsToEnd S.takes workload.now step_limit sink.old self.old sink.new self.new) }
         ensures well { OnOk result (SimulationGoesWell workload.now 0 self.old → HasGoneWell workload.now self.new) }
-        ensures ends { SimulationGoesWell workload.now 0 self.old → HasProcessors workload.now self.old → most ≡ most_steps workload.now → IfErr result (EndsEarly workload.now) }
-        ensures endless { SimulationGoesWell workload.now 0 self.old → IfErr result (IfEndless (RunsToLimit S.takes workload.now most sink.old self.old sink.new self.new)) }
+        ensures ends { SimulationGoesWell workload.now 0 self.old → HasProcessors workload.now self.old → step_limit ≡ most_steps workload.now → IfErr result (EndsEarly workload.now) }
+        ensures too_many_steps { SimulationGoesWell workload.now 0 self.old → IfErr result (IfTooManySteps (RunsToLimit S.takes workload.now step_limit sink.old self.old sink.new self.new)) }
     {
         let end = workload.machine.duration;
         let mut last: u64 = 0;
-        'steps: for _ in 0..most {
+        'steps: for _ in 0..step_limit {
             if sink.has_enough() {
                 return Ok(());
             }
@@ -191,9 +191,9 @@ impl Simulation {
                 return Err(SimulateFault::BrokenInvariant);
             }
             last = now;
-            self.meet(alloc, workload, due, now, sink)?;
+            self.handle_due(alloc, workload, due, now, sink)?;
         }
-        Err(SimulateFault::Endless)
+        Err(SimulateFault::TooManySteps)
     }
 
     /// Each processor ticks at the end, by number.

@@ -4,8 +4,8 @@ use Rattle.bq_simulate.specs.GoingWell.{EndsEarly}
 use Rattle.bq_simulate.specs.Simulations.{with_seed}
 use Rattle.bq_simulate.proofs.WholeLemmas.{IsNew, followed-of, too-long-of}
 use Rattle.bq_simulate.proofs.OpenWellLemmas.{starts-well}
-use Rattle.bq_simulate.proofs.WellLemmas.{bound-of-endless, err-both, err-by, wants-no-end}
-use Rattle.bq_simulate.proofs.following.follow.Goals as goal
+use Rattle.bq_simulate.proofs.WellLemmas.{bound-of-too_many_steps, err-both, err-by, wants-no-end}
+use Rattle.bq_simulate.proofs.whole_simulation.follow.Goals as goal
 
 pub returns-clause-reported : goal.returns-clause-reported
 returns-clause-reported g c =
@@ -21,7 +21,7 @@ returns-clause-reported g c =
       firsts = s.firsts;
     } in
     on_ok_weaker c.run.result
-    (λ h. followed-of g.S.Sink.takes g.S.Enough.sated _ _ _ c.args.policies.now w _ _ _ c.in_ok-driver.ensures.starts new h)
+    (λ h. followed-of g.S.Sink.takes g.S.Enough.has_enough _ _ _ c.args.policies.now w _ _ _ c.in_ok-driver.ensures.starts new h)
     c.run.ensures.runs
 
 pub returns-in_err-driver-clause-ends : goal.returns-in_err-driver-clause-ends
@@ -50,19 +50,19 @@ returns-clause-ends g c = λ sound.
     } in
     c.run.ensures.ends (starts-well w c.args.seed _ _ made.reported sound made.holds new s.counts)
 
-pub returns-in_err-driver-clause-endless : goal.returns-in_err-driver-clause-endless
-returns-in_err-driver-clause-endless g c = λ sound.
+pub returns-in_err-driver-clause-too_many_steps : goal.returns-in_err-driver-clause-too_many_steps
+returns-in_err-driver-clause-too_many_steps g c = λ sound.
     err-by c.from_residual.result c.from_residual.ensures.1
     (λ e is ends. absurd (wants-no-end (sym (is c.in_err-driver.ensures.fault) ∙ ends)))
 
-pub returns-in_err-simulation-clause-endless : goal.returns-in_err-simulation-clause-endless
-returns-in_err-simulation-clause-endless g c = λ sound.
+pub returns-in_err-simulation-clause-too_many_steps : goal.returns-in_err-simulation-clause-too_many_steps
+returns-in_err-simulation-clause-too_many_steps g c = λ sound.
     err-by c.from_residual-in_err-simulation.result c.from_residual-in_err-simulation.ensures.1
     (λ e is ends. absurd (wants-no-end (sym (is ∙ c.in_err-simulation.ensures.ends) ∙ ends)))
 
 -- the bound is more than 64 bits count, and as many things have come due as 64 bits count
-pub returns-clause-endless : goal.returns-clause-endless
-returns-clause-endless g c = λ sound.
+pub returns-clause-too_many_steps : goal.returns-clause-too_many_steps
+returns-clause-too_many_steps g c = λ sound.
     let s = c.in_ok-simulation.ensures in
     let w = c.args.workload.now in
     let made = c.in_ok-driver.ensures.starts in
@@ -77,6 +77,6 @@ returns-clause-endless g c = λ sound.
       firsts = s.firsts;
     } in
     let starts = starts-well w c.args.seed _ _ made.reported sound made.holds new s.counts in
-    err-both c.run.result (c.run.ensures.ends starts) (c.run.ensures.endless starts) (λ e early runs is.
+    err-both c.run.result (c.run.ensures.ends starts) (c.run.ensures.too_many_steps starts) (λ e early runs is.
     too-long-of g.S.Sink.takes _ _ _ c.args.policies.now seeded _ _ _ made new
-    (bound-of-endless w (subst (EndsEarly w) is early)) (runs is))
+    (bound-of-too_many_steps w (subst (EndsEarly w) is early)) (runs is))

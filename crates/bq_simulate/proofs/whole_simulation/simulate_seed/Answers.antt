@@ -3,15 +3,15 @@ use Rattle.std.proofs.Common.{Bool, subst, sym, ◌∙◌}
 use Rattle.bq_trace.specs.TraceEvents.{Gets}
 use Rattle.bq_simulate.specs.Simulations.{IsFollowed, with_seed}
 use Rattle.bq_simulate.proofs.WholeLemmas.{followed_whole}
-use Rattle.bq_simulate.proofs.following.simulate_seed.Goals as goal
+use Rattle.bq_simulate.proofs.whole_simulation.simulate_seed.Goals as goal
 
 pub returns-then-has_enough-clause-enough : goal.returns-then-has_enough-clause-enough
 returns-then-has_enough-clause-enough g c =
-    let sated = sym c.has_enough.ensures ∙ c.if-has_enough.true in
+    let enough = sym c.has_enough.ensures ∙ c.if-has_enough.true in
     let w = with_seed c.args.workload.now c.args.seed in
     λ is. (
-      sated,
-      subst (λ (b : Bool). Gets g.S.Sink.takes c.args.sink.now c.follow.new.sink (IsFollowed b c.args.policies.now w)) sated
+      enough,
+      subst (λ (b : Bool). Gets g.S.Sink.takes c.args.sink.now c.follow.new.sink (IsFollowed b c.args.policies.now w)) enough
           c.in-Ok.ensures.reported,
     )
 
