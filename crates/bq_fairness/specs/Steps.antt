@@ -2,7 +2,7 @@
 -- charged, the discipline decides, a task enters the queue, a task leaves, the mark is computed again. A Tick is the first two. A
 -- Block has a Leave between them, and a Drain its entries. The end of a wake only passes time. A pull passes time,
 -- and a task may enter; it decides only at a processor where nothing runs (specs/Events).
-use Rattle.std.specs.Prelude.{◌≡◌, ℕ, ◌+◌, ◌≤◌, ◌^◌, max, Bool, false, ◌==◌, if◌then◌else◌, List, [], ◌∷◌, Option, None, Some}
+use Rattle.std.specs.Prelude.{◌≡◌, ℕ, ◌+◌, ◌≤◌, max, Bool, false, ◌==◌, if◌then◌else◌, List, [], ◌∷◌, Option, None, Some}
 use Rattle.bq_cfs.specs.declared.discipline.TheConstants.{GRANULARITY}
 use Rattle.bq_weights.specs.VirtualTime.{IsWeight, vdelta_of}
 use Rattle.bq_disc.specs.Tasks.{Task, has_id, inserted, without}
@@ -13,6 +13,7 @@ use Rattle.bq_cfs.specs.Spread.{AreTasksSound}
 use Rattle.bq_eevdf.specs.Eevdf.{eevdf}
 use Rattle.bq_fairness.specs.Histories.{HasRoom, task_at, tick_charge}
 use Rattle.bq_fairness.specs.EevdfDeadlines.{HasDeadlines}
+use Rattle.bq_weights.specs.declared.TheConstants.{GREATEST_V}
 
 -- one step at a processor
 pub data ProcessorStep : Type 0 where
@@ -75,7 +76,7 @@ DecidesWithin r d n p (s ∷ ss) = (since n p s ≤ r) × DecidesWithin r d (sin
 pub record IsNew (p : Running) (t : Task) : Type 0 where
   pub id : task_at t.id p ≡ None
   pub weight : IsWeight t.weight
-  pub ends : t.v ≤ 2 ^ 62
+  pub ends : t.v ≤ GREATEST_V
 
 -- if the step is an Enter, its task is new
 abbrev pub EntersNew : Running → ProcessorStep → Type 0
