@@ -35,14 +35,15 @@ pub struct Cpu<Q: RunQueue> {
 }
 
 impl<Q: RunQueue> Model for Cpu<Q> {
-    ghost use Rattle.std.specs.Prelude.{◌<◌, ◌^◌};
+    ghost use Rattle.std.specs.Prelude.{◌≤◌};
+    ghost use Rattle.bq_disc.specs.declared.clock.TheConstants.{LATEST};
     ghost use Rattle.bq_parts.specs.Processors.{Processor};
 
     ghost Value = { Processor };
 
     ghost view = { λ c. record { running = record { queue = Q.members c.queue; mark = Q.last_mark c.queue; current = c.current; last = c.last }; hand = c.hand; hooks = c.hooks } };
 
-    ghost invariant = { λ c. c.last < 2 ^ 48 };
+    ghost invariant = { λ c. c.last ≤ LATEST };
 }
 
 /// The node of the running task.

@@ -1,5 +1,6 @@
 //! What a run queue answers, as numbers.
-ghost use Rattle.std.specs.Prelude.{◌≡◌, ◌<◌, ◌^◌};
+ghost use Rattle.std.specs.Prelude.{◌≡◌, ◌≤◌};
+ghost use Rattle.bq_disc.specs.declared.clock.TheConstants.{LATEST};
 ghost use Rattle.bq_disc.specs.Chains.{task_of, IsLone};
 
 use crate::command::{Command, Newcomer};
@@ -152,7 +153,7 @@ fn left<Q: RunQueue>(queue: &Q, task: Option<Entity>) -> Option<Entity> {
 
 /// A task that has run for a time.
 fn charged<Q: RunQueue>(queue: &Q, task: Option<Entity>, time: u64) -> Option<Entity>
-    requires { time < 2 ^ 48 }
+    requires { time ≤ LATEST }
 {
     let mut node = node_of(&task?);
     queue.charge(&mut node, time);
