@@ -1,5 +1,5 @@
 //! What a run queue answers, as numbers.
-ghost use Rattle.std.specs.Prelude.{◌≡◌, ◌≤◌};
+ghost use Rattle.std.specs.Prelude.{◌≡◌, ◌<◌, ◌≤◌};
 ghost use Rattle.bq_disc.specs.declared.clock.TheConstants.{LATEST};
 ghost use Rattle.bq_disc.specs.Chains.{task_of, IsLone};
 
