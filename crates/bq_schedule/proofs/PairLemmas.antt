@@ -7,7 +7,7 @@ use Rattle.std.proofs.lemmas.List.Elements.{filter-append}
 use Rattle.bq_parts.specs.declared.event.Event.{Event}
 use Rattle.bq_schedule.specs.declared.change.Start.{Start}
 use Rattle.bq_schedule.specs.declared.change.Stop.{Stop}
-use Rattle.bq_schedule.specs.declared.change.Left.{Left}
+use Rattle.bq_schedule.specs.declared.change.StopReason.{StopReason}
 use Rattle.bq_schedule.specs.declared.figures.ProcessorFigures.{ProcessorFigures}
 use Rattle.bq_schedule.specs.Moments.{History}
 use Rattle.bq_schedule.specs.Figures.{Figures, unread, processor_in_figures}
@@ -50,7 +50,7 @@ pairs-none j running running' stop start stops starts same =
     ∙ ap (λ l. map (λ (sp : Stop). sp.start) l ++ option_to_list running') (sym stops)
 
 -- where a task stops and another starts, or none, the stop ends the start that ran, and the new start runs
-pairs-new : (j at : ℕ) (left : Left) (running start : Option Start)
+pairs-new : (j at : ℕ) (left : StopReason) (running start : Option Start)
     → ((st : Start) → running ≡ Some st → st.processor ≡ j) → ((st : Start) → start ≡ Some st → st.processor ≡ j)
     → Pairs j running start (stop_of left at running) start
 pairs-new j at left None start ran begun = filter-starts j start begun
@@ -60,7 +60,7 @@ pairs-new j at left (Some old) start ran begun =
     ap (λ l. old ∷ l) (filter-starts j start begun) ∙ ap (λ l. map (λ (sp : Stop). sp.start) l ++ option_to_list start) (sym stops)
 
 -- a switch pairs starts and stops at its processor, whether another task runs or not
-pairs-if : (b : Bool) (j processor at : ℕ) (left : Left) (run : Option ℕ) (u : Figures) (running running' : Option Start)
+pairs-if : (b : Bool) (j processor at : ℕ) (left : StopReason) (run : Option ℕ) (u : Figures) (running running' : Option Start)
     (stop : Option Stop) (start : Option Start)
     → processor ≡ j → ((st : Start) → running ≡ Some st → st.processor ≡ j) → stop ≡ cond b None (stop_of left at running)
     → start ≡ cond b None (starts_as processor at run u) → running' ≡ cond b running (starts_as processor at run u)
@@ -77,7 +77,7 @@ pairs-if false j processor at left run u running running' stop start same ran st
     rw (stops, starts, runs) p1
 
 -- a switch pairs starts and stops at each processor, its own and the others
-pairs-there : (s s' : Figures) (left : Left) (processor at : ℕ) (run : Option ℕ) (stop : Option Stop)
+pairs-there : (s s' : Figures) (left : StopReason) (processor at : ℕ) (run : Option ℕ) (stop : Option Stop)
     (start : Option Start) (j : ℕ) (b : Bool)
     → Switches s s' left processor at run stop start → ((b ≡ true) × (processor ≡ j)) ⊎ ((b ≡ false) × (processor ≢ j))
     → ((i : ℕ) (st : Start) → ((i ≡ j) ⊎ (i ≡ processor)) → (processor_in_figures s i).running ≡ Some st → st.processor ≡ i)
@@ -100,7 +100,7 @@ pairs-there s s' left processor at run stop start j b t (inr other) here =
     (t.others j (λ is. other.1 (sym is)))
 
 -- so does an answer, whether it says who runs or not
-pairs-run : (s s' : Figures) (left : Left) (processor at : ℕ) (o : Option (Option ℕ)) (stop : Option Stop)
+pairs-run : (s s' : Figures) (left : StopReason) (processor at : ℕ) (o : Option (Option ℕ)) (stop : Option Stop)
     (start : Option Start) (j : ℕ)
     → ReportsRunning s s' left processor at o stop start
     → ((i : ℕ) (st : Start) → ((i ≡ j) ⊎ (i ≡ processor)) → (processor_in_figures s i).running ≡ Some st → st.processor ≡ i)

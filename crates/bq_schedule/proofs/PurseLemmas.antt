@@ -7,8 +7,8 @@ use Rattle.bq_hooks.specs.declared.hook.Hook.{Hook}
 use Rattle.bq_hooks.specs.declared.hook.Hook.TheVariants.{Place, Preempt, Pull}
 use Rattle.bq_schedule.specs.declared.change.Decision.{Decision}
 use Rattle.bq_schedule.specs.declared.change.Start.{Start}
-use Rattle.bq_schedule.specs.declared.change.Left.{Left}
-use Rattle.bq_schedule.specs.declared.change.Left.TheVariants.{Preempted, Blocked}
+use Rattle.bq_schedule.specs.declared.change.StopReason.{StopReason}
+use Rattle.bq_schedule.specs.declared.change.StopReason.TheVariants.{Preempted, Blocked}
 use Rattle.bq_schedule.specs.declared.figures.TaskFigures.{TaskFigures}
 use Rattle.bq_schedule.specs.declared.figures.ProcessorFigures.{ProcessorFigures}
 use Rattle.bq_schedule.specs.Figures.{Figures, unread, unknown, processor_in_figures, task_in_figures, figures_with_processor, figures_with_task}
@@ -95,7 +95,7 @@ purse-with_latency t None = refl
 purse-with_latency t (Some n) = refl
 
 -- what is counted of a task that ceases to run, and of one that begins, keeps purses and pots:
-kept-stopped : (left : Left) (now : ℕ) (running : Option Start) (s : Figures) → KeepsPurses s (stopped left now running s)
+kept-stopped : (left : StopReason) (now : ℕ) (running : Option Start) (s : Figures) → KeepsPurses s (stopped left now running s)
 kept-stopped left now None s = kept-id s
 kept-stopped Blocked now (Some old) s = kept-id s
 kept-stopped Preempted now (Some old) s = kept-with_task s old.task _ refl
@@ -118,7 +118,7 @@ kept-started processor now run s =
     (kept-with_processor (begun_if processor now run s) processor _
     (pot-processor_runs (processor_in_figures s processor) (starts_as processor now run s) ∙ ap pot (sym e)))
 
-kept-switched_if : (b : Bool) (left : Left) (processor now : ℕ) (run : Option ℕ) (s : Figures) →
+kept-switched_if : (b : Bool) (left : StopReason) (processor now : ℕ) (run : Option ℕ) (s : Figures) →
     KeepsPurses s (cond b s (started processor now run (stopped left now (processor_in_figures s processor).running s)))
 kept-switched_if true left processor now run s = kept-id s
 kept-switched_if false left processor now run s =
@@ -126,7 +126,7 @@ kept-switched_if false left processor now run s =
     kept-then s t _ (kept-stopped left now (processor_in_figures s processor).running s) (kept-started processor now run t)
 
 -- a switch to a task, or to none, keeps purses and pots
-pub kept-switched : (left : Left) (processor now : ℕ) (run : Option ℕ) (s : Figures) → KeepsPurses s (figures_switched left processor now run s)
+pub kept-switched : (left : StopReason) (processor now : ℕ) (run : Option ℕ) (s : Figures) → KeepsPurses s (figures_switched left processor now run s)
 kept-switched left processor now run s = kept-switched_if (is_run_by (processor_in_figures s processor).running run) left processor now run s
 
 -- the fair time of a purse, where so much was given at each processor

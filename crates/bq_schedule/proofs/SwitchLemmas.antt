@@ -14,8 +14,8 @@ use Rattle.bq_hooks.specs.declared.hook.Hook.TheVariants.{Preempt, Pull as OnPul
 use Rattle.bq_schedule.specs.declared.change.Decision.{Decision}
 use Rattle.bq_schedule.specs.declared.change.Start.{Start}
 use Rattle.bq_schedule.specs.declared.change.Stop.{Stop}
-use Rattle.bq_schedule.specs.declared.change.Left.{Left}
-use Rattle.bq_schedule.specs.declared.change.Left.TheVariants.{Preempted, Blocked}
+use Rattle.bq_schedule.specs.declared.change.StopReason.{StopReason}
+use Rattle.bq_schedule.specs.declared.change.StopReason.TheVariants.{Preempted, Blocked}
 use Rattle.bq_schedule.specs.declared.figures.ProcessorFigures.{ProcessorFigures}
 use Rattle.bq_schedule.specs.Moments.{Moment, History}
 use Rattle.bq_schedule.specs.Figures.{Figures, unread, processor_in_figures, task_in_figures}
@@ -30,7 +30,7 @@ use Rattle.bq_schedule.proofs.FrameLemmas.{KeepsRunning, works-asked, works-leav
 use Rattle.bq_schedule.proofs.ClockLemmas.{figures-clocks, shows-performed, within-figures, not_below}
 
 -- a switch at a processor: what is reported of it, and what runs afterwards
-pub record Switches (s s' : Figures) (left : Left) (processor at : ℕ) (run : Option ℕ) (stop : Option Stop)
+pub record Switches (s s' : Figures) (left : StopReason) (processor at : ℕ) (run : Option ℕ) (stop : Option Stop)
     (start : Option Start) : Type 0 where
   pub before : Figures
   pub stops : stop ≡ cond (is_run_by (processor_in_figures s processor).running run) None (stop_of left at (processor_in_figures s processor).running)
@@ -53,7 +53,7 @@ running-started processor at run u inside =
     ∙ ap (λ (p : ProcessorFigures). p.running) (get_or-set_same u.processors processor q unread inside)
     ∙ running-processor_runs (processor_in_figures u processor) (starts_as processor at run u)
 
-running-switched_if : (b : Bool) (left : Left) (processor at : ℕ) (run : Option ℕ) (t : Figures)
+running-switched_if : (b : Bool) (left : StopReason) (processor at : ℕ) (run : Option ℕ) (t : Figures)
     → processor < length t.processors
     → let u = stopped left at (processor_in_figures t processor).running t in
     (processor_in_figures (cond b t (started processor at run u)) processor).running
@@ -64,7 +64,7 @@ running-switched_if false left processor at run t inside =
     running-started processor at run u (omega (arith, (works-stopped left at (processor_in_figures t processor).running t).count))
 
 -- after a step that keeps who runs, and before another, a switch is one of the whole
-switch : (left : Left) (processor at : ℕ) (run : Option ℕ) (s t s' : Figures)
+switch : (left : StopReason) (processor at : ℕ) (run : Option ℕ) (s t s' : Figures)
     → KeepsRunning s t → processor < length t.processors → KeepsRunning (figures_switched left processor at run t) s'
     → Switches s s' left processor at run (stop_at left processor at run t) (start_at left processor at run t)
 switch left processor at run s t s' k inside k' =
@@ -80,7 +80,7 @@ switch left processor at run s t s' k inside k' =
     }
 
 -- what an answer tells of who runs, by what it shows: nothing where it does not say who does
-abbrev pub ReportsRunning : Figures → Figures → Left → ℕ → ℕ → Option (Option ℕ) → Option Stop → Option Start → Type 0
+abbrev pub ReportsRunning : Figures → Figures → StopReason → ℕ → ℕ → Option (Option ℕ) → Option Stop → Option Start → Type 0
 ReportsRunning s s' left processor at None stop start = (stop ≡ None) × (start ≡ None) × KeepsRunning s s'
 ReportsRunning s s' left processor at (Some run) stop start = Switches s s' left processor at run stop start
 
@@ -211,14 +211,14 @@ start_if false running processor at (Some id) u start is e =
     subst P x (record { here = refl; task = refl; time = refl; new = not_who running (Some id) is })
 
 -- a stop that a switch tells
-pub record IsStop (running : Option Start) (left : Left) (at : ℕ) (run : Option ℕ) (stop : Stop) : Type 0 where
+pub record IsStop (running : Option Start) (left : StopReason) (at : ℕ) (run : Option ℕ) (stop : Stop) : Type 0 where
   pub start : running ≡ Some stop.start
   pub time : stop.at ≡ at
   pub why : stop.reason ≡ left
   pub new : option_map (λ (x : Start). x.task) running ≢ run
 
 -- what is reported to stop, where another runs than did, is such a stop
-pub stop_if : (b : Bool) (running : Option Start) (left : Left) (at : ℕ) (run : Option ℕ) (stop : Stop)
+pub stop_if : (b : Bool) (running : Option Start) (left : StopReason) (at : ℕ) (run : Option ℕ) (stop : Stop)
     → is_run_by running run ≡ b → cond b None (stop_of left at running) ≡ Some stop
     → IsStop running left at run stop
 stop_if true running left at run stop is e = cc
@@ -268,7 +268,7 @@ IsStartOf count past o st =
     × (st.at ≡ clock_after st.processor (clock st.processor past) o)
 
 -- a start that is told is of a task that begins to run there, at that reading, by what the answer shows:
-start-run : (count : ℕ) (past : History) (processor now : ℕ) (o : Option (Option ℕ)) (s' : Figures) (left : Left)
+start-run : (count : ℕ) (past : History) (processor now : ℕ) (o : Option (Option ℕ)) (s' : Figures) (left : StopReason)
     (stop : Option Stop) (start : Option Start) (st : Start)
     → IsOfProcessors count past → processor < count
     → ReportsRunning (figures count past) s' left processor (time_at processor now (figures count past)) o stop start
@@ -305,7 +305,7 @@ start-shown count past (Some x) s' e stop start st h w t is =
     start-run count past x.processor x.now x.run s' (why_left e) stop start st h w t is
 
 -- each start of a task that begins to run is reported
-begun-there : (count : ℕ) (past : History) (processor now j task : ℕ) (run : Option ℕ) (s' : Figures) (left : Left)
+begun-there : (count : ℕ) (past : History) (processor now j task : ℕ) (run : Option ℕ) (s' : Figures) (left : StopReason)
     (stop : Option Stop) (start : Option Start) (b : Bool)
     → IsOfProcessors count past → processor < count
     → Switches (figures count past) s' left processor (time_at processor now (figures count past)) run stop start
@@ -325,7 +325,7 @@ begun-there count past processor now j task run s' left stop start false h w t (
 begun-there count past processor now j task run s' left stop start true h w t (inr other) is new = absurd (cc)
 begun-there count past processor now j task run s' left stop start false h w t (inr other) is new = absurd (new is)
 
-begun-run : (count : ℕ) (past : History) (processor now j task : ℕ) (o : Option (Option ℕ)) (s' : Figures) (left : Left)
+begun-run : (count : ℕ) (past : History) (processor now j task : ℕ) (o : Option (Option ℕ)) (s' : Figures) (left : StopReason)
     (stop : Option Stop) (start : Option Start)
     → IsOfProcessors count past → processor < count
     → ReportsRunning (figures count past) s' left processor (time_at processor now (figures count past)) o stop start
@@ -378,7 +378,7 @@ begun-here false processor at (Some id) u running st e before =
     ap (λ (y : Start). y.processor) (sym x)
 
 -- where what ran at a processor had begun there, what runs after a moment has too, by cases:
-here-there : (s s' : Figures) (left : Left) (processor at : ℕ) (run : Option ℕ) (stop : Option Stop)
+here-there : (s s' : Figures) (left : StopReason) (processor at : ℕ) (run : Option ℕ) (stop : Option Stop)
     (start : Option Start) (j : ℕ) (st : Start) (b : Bool)
     → Switches s s' left processor at run stop start → ((b ≡ true) × (processor ≡ j)) ⊎ ((b ≡ false) × (processor ≢ j))
     → ((processor_in_figures s j).running ≡ Some st → st.processor ≡ j) → (processor_in_figures s' j).running ≡ Some st
@@ -390,7 +390,7 @@ here-there s s' left processor at run stop start j st b t (inl same) before e =
     ∙ same.1
 here-there s s' left processor at run stop start j st b t (inr other) before e = before (sym (t.others j (λ is. other.1 (sym is))) ∙ e)
 
-here-run : (s s' : Figures) (left : Left) (processor at : ℕ) (o : Option (Option ℕ)) (stop : Option Stop)
+here-run : (s s' : Figures) (left : StopReason) (processor at : ℕ) (o : Option (Option ℕ)) (stop : Option Stop)
     (start : Option Start) (j : ℕ) (st : Start)
     → ReportsRunning s s' left processor at o stop start → ((processor_in_figures s j).running ≡ Some st → st.processor ≡ j)
     → (processor_in_figures s' j).running ≡ Some st
@@ -463,7 +463,7 @@ stop-shown count past None s' e stop start sp h w t is =
 stop-shown count past (Some x) s' e stop start sp h w t is = stop-run count past e x.processor x.now x.run s' stop start sp h w t is
 
 -- of what ran something is reported where it is another than runs now
-ceased-reported : (running : Option Start) (left : Left) (at j task : ℕ) (stop : Option Stop)
+ceased-reported : (running : Option Start) (left : StopReason) (at j task : ℕ) (stop : Option Stop)
     → stop ≡ stop_of left at running → option_map (λ (x : Start). x.task) running ≡ Some task
     → ((st : Start) → running ≡ Some st → st.processor ≡ j)
     → IsSomeAnd stop (λ sp. (sp.start.processor ≡ j) × (sp.start.task ≡ task))
@@ -473,7 +473,7 @@ ceased-reported (Some old) left at j task stop is e here =
     and_some stop _ (record { start = old; at = at; reason = left }) is (here old refl, same)
 
 -- of each task that ceases to run a stop is told, by cases:
-ceased-there : (count : ℕ) (past : History) (processor now j task : ℕ) (run : Option ℕ) (s' : Figures) (left : Left)
+ceased-there : (count : ℕ) (past : History) (processor now j task : ℕ) (run : Option ℕ) (s' : Figures) (left : StopReason)
     (stop : Option Stop) (start : Option Start) (b : Bool)
     → IsOfProcessors count past → processor < count
     → Switches (figures count past) s' left processor (time_at processor now (figures count past)) run stop start
@@ -494,7 +494,7 @@ ceased-there count past processor now j task run s' left stop start false h w t 
 ceased-there count past processor now j task run s' left stop start true h w t (inr other) ran new = absurd (cc)
 ceased-there count past processor now j task run s' left stop start false h w t (inr other) ran new = absurd (new ran)
 
-ceased-run : (count : ℕ) (past : History) (processor now j task : ℕ) (o : Option (Option ℕ)) (s' : Figures) (left : Left)
+ceased-run : (count : ℕ) (past : History) (processor now j task : ℕ) (o : Option (Option ℕ)) (s' : Figures) (left : StopReason)
     (stop : Option Stop) (start : Option Start)
     → IsOfProcessors count past → processor < count
     → ReportsRunning (figures count past) s' left processor (time_at processor now (figures count past)) o stop start

@@ -14,8 +14,8 @@ use Rattle.bq_parts.specs.declared.refusal.Refusal.{Refusal}
 use Rattle.bq_hooks.specs.declared.hook.Hook.TheVariants.{Place, Preempt, Pull as OnPull}
 use Rattle.bq_schedule.specs.declared.slice.Slice.{Slice}
 use Rattle.bq_schedule.specs.declared.change.Decision.{Decision}
-use Rattle.bq_schedule.specs.declared.change.Left.{Left}
-use Rattle.bq_schedule.specs.declared.change.Left.TheVariants.{Preempted, Blocked}
+use Rattle.bq_schedule.specs.declared.change.StopReason.{StopReason}
+use Rattle.bq_schedule.specs.declared.change.StopReason.TheVariants.{Preempted, Blocked}
 use Rattle.bq_schedule.specs.declared.figures.TaskFigures.{TaskFigures}
 use Rattle.bq_schedule.specs.declared.figures.ProcessorFigures.{ProcessorFigures}
 use Rattle.bq_schedule.specs.Counts.{parts_per_nanosecond}
@@ -166,7 +166,7 @@ goes-admitted id nice s = record {
 }
 
 -- a switch to a task, or to none, is such a move
-goes-switched : (left : Left) (processor now : ℕ) (run : Option ℕ) (s : Figures) → Goes s (figures_switched left processor now run s)
+goes-switched : (left : StopReason) (processor now : ℕ) (run : Option ℕ) (s : Figures) → Goes s (figures_switched left processor now run s)
 goes-switched left processor now run s =
     goes-purses s _ (works-switched left processor now run s) (PurseLemmas.kept-switched left processor now run s)
 

@@ -16,8 +16,8 @@ use Rattle.bq_schedule.specs.declared.change.Change.{Change}
 use Rattle.bq_schedule.specs.declared.change.Decision.{Decision}
 use Rattle.bq_schedule.specs.declared.change.PulledTask.{PulledTask}
 use Rattle.bq_schedule.specs.declared.change.Start.{Start}
-use Rattle.bq_schedule.specs.declared.change.Left.{Left}
-use Rattle.bq_schedule.specs.declared.change.Left.TheVariants.{Preempted, Blocked}
+use Rattle.bq_schedule.specs.declared.change.StopReason.{StopReason}
+use Rattle.bq_schedule.specs.declared.change.StopReason.TheVariants.{Preempted, Blocked}
 use Rattle.bq_schedule.specs.declared.figures.ProcessorFigures.{ProcessorFigures}
 use Rattle.bq_schedule.specs.declared.figures.TaskFigures.{TaskFigures}
 use Rattle.bq_disc.specs.Counts.{saturating_sum}
@@ -152,12 +152,12 @@ waited-taken processor from at (Some id) s j inside h =
     ∙ saturating_sum-at s id j (at - (task_in_figures s id).since) (eqb id j) (eqb_tells id j) h
 
 -- one that is preempted waits from then on, and one that blocks does not
-abbrev pub if_preempted : Left → Bool → Bool
+abbrev pub if_preempted : StopReason → Bool → Bool
 if_preempted Preempted b = b
 if_preempted Blocked b = false
 
 -- after a stop the task that ran waits from then on, if it was preempted
-since-stopped : (left : Left) (at : ℕ) (running : Option Start) (s : Figures) (j : ℕ)
+since-stopped : (left : StopReason) (at : ℕ) (running : Option Start) (s : Figures) (j : ℕ)
     → j < length s.tasks
     → (task_in_figures (stopped left at running s) j).since
     ≡ cond (if_preempted left (is_this j (option_map (λ (x : Start). x.task) running))) at (task_in_figures s j).since
@@ -167,13 +167,13 @@ since-stopped Blocked at (Some old) s j inside = refl
 since-stopped Preempted at (Some old) s j inside = set-at (λ t. t.since) s old.task j _ (eqb old.task j) inside (eqb_tells old.task j)
 
 -- a stop adds nothing to how long tasks have waited, and leaves as many tasks as before:
-waited-stopped : (left : Left) (at : ℕ) (running : Option Start) (s : Figures) (j : ℕ)
+waited-stopped : (left : StopReason) (at : ℕ) (running : Option Start) (s : Figures) (j : ℕ)
     → (task_in_figures (stopped left at running s) j).waited ≡ (task_in_figures s j).waited
 waited-stopped left at None s j = refl
 waited-stopped Blocked at (Some old) s j = refl
 waited-stopped Preempted at (Some old) s j = task_kept (λ (t : TaskFigures). t.waited) s old.task j _ refl
 
-tasks-stopped : (left : Left) (at : ℕ) (running : Option Start) (s : Figures) → length (stopped left at running s).tasks ≡ length s.tasks
+tasks-stopped : (left : StopReason) (at : ℕ) (running : Option Start) (s : Figures) → length (stopped left at running s).tasks ≡ length s.tasks
 tasks-stopped left at None s = refl
 tasks-stopped Blocked at (Some old) s = refl
 tasks-stopped Preempted at (Some old) s = length-set s.tasks old.task _
@@ -216,12 +216,12 @@ gives_way-same : (b : Bool) → (b && not b) ≡ false
 gives_way-same true = refl
 gives_way-same false = refl
 
-none-preempted : (left : Left) → if_preempted left false ≡ false
+none-preempted : (left : StopReason) → if_preempted left false ≡ false
 none-preempted Preempted = refl
 none-preempted Blocked = refl
 
 -- since when a task waits after a switch, by whether another runs
-since-switched_if : (b : Bool) (left : Left) (processor at : ℕ) (run : Option ℕ) (s : Figures) (j : ℕ)
+since-switched_if : (b : Bool) (left : StopReason) (processor at : ℕ) (run : Option ℕ) (s : Figures) (j : ℕ)
     → is_run_by (processor_in_figures s processor).running run ≡ b → j < length s.tasks
     → (task_in_figures (cond b s (started processor at run (stopped left at (processor_in_figures s processor).running s))) j).since
     ≡ cond (if_preempted left (gives_way j (running_task (processor_in_figures s processor)) run)) at (task_in_figures s j).since
@@ -239,7 +239,7 @@ since-switched_if false left processor at run s j e inside =
     (is_this j run) refl refl (not_who running run e)))
 
 -- after a switch the task that gave way waits, where it is preempted
-since-switched : (left : Left) (processor at : ℕ) (run : Option ℕ) (s : Figures) (j : ℕ)
+since-switched : (left : StopReason) (processor at : ℕ) (run : Option ℕ) (s : Figures) (j : ℕ)
     → j < length s.tasks
     → (task_in_figures (figures_switched left processor at run s) j).since
     ≡ cond (if_preempted left (gives_way j (running_task (processor_in_figures s processor)) run)) at (task_in_figures s j).since
@@ -247,7 +247,7 @@ since-switched left processor at run s j inside =
     since-switched_if (is_run_by (processor_in_figures s processor).running run) left processor at run s j refl inside
 
 -- how long a task has waited after a switch, by whether another runs
-waited-switched_if : (b : Bool) (left : Left) (processor at : ℕ) (run : Option ℕ) (s : Figures) (j : ℕ)
+waited-switched_if : (b : Bool) (left : StopReason) (processor at : ℕ) (run : Option ℕ) (s : Figures) (j : ℕ)
     → j < length s.tasks → (task_in_figures s j).waited ≤ 18446744073709551615
     → let u = stopped left at (processor_in_figures s processor).running s in
     (task_in_figures (cond b s (started processor at run u)) j).waited
@@ -261,7 +261,7 @@ waited-switched_if false left processor at run s j inside h =
     ∙ ap (λ n. saturating_sum n (wait_of_start j (starts_as processor at run u))) w
 
 -- after a switch what the task that begins has waited counts
-waited-switched : (left : Left) (processor at : ℕ) (run : Option ℕ) (s : Figures) (j : ℕ)
+waited-switched : (left : StopReason) (processor at : ℕ) (run : Option ℕ) (s : Figures) (j : ℕ)
     → j < length s.tasks → (task_in_figures s j).waited ≤ 18446744073709551615
     → (task_in_figures (figures_switched left processor at run s) j).waited
     ≡ saturating_sum (task_in_figures s j).waited (wait_of_start j (start_at left processor at run s))
@@ -269,7 +269,7 @@ waited-switched left processor at run s j inside h =
     waited-switched_if (is_run_by (processor_in_figures s processor).running run) left processor at run s j inside h
 
 -- what a start says of its task's wait, by whether another runs
-starts-waited_if : (b : Bool) (left : Left) (processor at : ℕ) (run : Option ℕ) (s : Figures) (st : Start)
+starts-waited_if : (b : Bool) (left : StopReason) (processor at : ℕ) (run : Option ℕ) (s : Figures) (st : Start)
     → let u = stopped left at (processor_in_figures s processor).running s in
     cond b None (starts_as processor at run u) ≡ Some st →
     st.waited ≡ st.at - (task_in_figures (cond b s (started processor at run u)) st.task).since
@@ -282,7 +282,7 @@ starts-waited_if false left processor at (Some id) s st e =
     subst P x (ap (λ n. at - n) (sym (since-begun_if processor at (Some id) u id)))
 
 -- a start that a switch tells says how long its task has waited
-starts-waited : (left : Left) (processor at : ℕ) (run : Option ℕ) (s : Figures) (st : Start)
+starts-waited : (left : StopReason) (processor at : ℕ) (run : Option ℕ) (s : Figures) (st : Start)
     → start_at left processor at run s ≡ Some st
     → st.waited ≡ st.at - (task_in_figures (figures_switched left processor at run s) st.task).since
 starts-waited left processor at run s st e =
@@ -338,7 +338,7 @@ placed-reports processor now d id to s j c inside p st =
           ∙ ap (λ o. saturating_sum (task_in_figures s j).waited (0 + wait_of_start j o)) st);
     }
 
-switch-reports : (left : Left) (processor at : ℕ) (run : Option ℕ) (s t : Figures) (j : ℕ) (c : Change)
+switch-reports : (left : StopReason) (processor at : ℕ) (run : Option ℕ) (s t : Figures) (j : ℕ) (c : Change)
     → j < length s.tasks → KeepsWaits s t → (processor_in_figures t processor).running ≡ (processor_in_figures s processor).running
     → c.pull ≡ None → c.start ≡ start_at left processor at run t
     → ReportsWaited s (figures_switched left processor at run t) j

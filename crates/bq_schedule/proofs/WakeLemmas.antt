@@ -14,8 +14,8 @@ use Rattle.bq_hooks.specs.declared.hook.Hook.TheVariants.{Place, Preempt, Pull a
 use Rattle.bq_schedule.specs.declared.slice.Slice.{Slice}
 use Rattle.bq_schedule.specs.declared.change.Decision.{Decision}
 use Rattle.bq_schedule.specs.declared.change.Start.{Start}
-use Rattle.bq_schedule.specs.declared.change.Left.{Left}
-use Rattle.bq_schedule.specs.declared.change.Left.TheVariants.{Preempted, Blocked}
+use Rattle.bq_schedule.specs.declared.change.StopReason.{StopReason}
+use Rattle.bq_schedule.specs.declared.change.StopReason.TheVariants.{Preempted, Blocked}
 use Rattle.bq_schedule.specs.declared.figures.ProcessorFigures.{ProcessorFigures}
 use Rattle.bq_schedule.specs.declared.figures.TaskFigures.{TaskFigures}
 use Rattle.bq_schedule.specs.Moments.{History}
@@ -78,7 +78,7 @@ kept-taken processor now None s = same s
 kept-taken processor now (Some id) s =
     both s (waited_there id now s) _ (with_one s id _ refl) (kept-comes id processor now (waited_there id now s))
 
-kept-stopped : (left : Left) (now : ℕ) (running : Option Start) (s : Figures) → KeepsWakes s (stopped left now running s)
+kept-stopped : (left : StopReason) (now : ℕ) (running : Option Start) (s : Figures) → KeepsWakes s (stopped left now running s)
 kept-stopped left now None s = same s
 kept-stopped Blocked now (Some old) s = same s
 kept-stopped Preempted now (Some old) s = with_one s old.task _ refl
@@ -149,7 +149,7 @@ begins-old j (Some start) (Some id) e =
     old_at j start.task id (eqb id j) (eqb start.task j) (eqb_tells id j) (eqb_tells start.task j) (eqb-true start.task id e)
 
 -- a switch ends the wait of the wake whose task begins to run, and of no other, by whether another runs:
-woken-switched_if : (b : Bool) (left : Left) (processor now : ℕ) (run : Option ℕ) (s : Figures) (j : ℕ)
+woken-switched_if : (b : Bool) (left : StopReason) (processor now : ℕ) (run : Option ℕ) (s : Figures) (j : ℕ)
     → is_run_by (processor_in_figures s processor).running run ≡ b → j < length s.tasks
     → (task_in_figures (cond b s (started processor now run (stopped left now (processor_in_figures s processor).running s))) j).woken
     ≡ cond (begins_as j (running_task (processor_in_figures s processor)) (Some run)) None (task_in_figures s j).woken
@@ -160,7 +160,7 @@ woken-switched_if false left processor now run s j e inside =
     woken-begun_if processor now run t j (omega (arith, k.tasks)) ∙ ap (λ o. cond (is_this j run) None o) (k.at j)
     ∙ ap (λ b. cond b None (task_in_figures s j).woken) (sym (begins-new j (processor_in_figures s processor).running run e))
 
-woken-switched : (left : Left) (processor now : ℕ) (run : Option ℕ) (s : Figures) (j : ℕ)
+woken-switched : (left : StopReason) (processor now : ℕ) (run : Option ℕ) (s : Figures) (j : ℕ)
     → j < length s.tasks
     → (task_in_figures (figures_switched left processor now run s) j).woken
     ≡ cond (begins_as j (running_task (processor_in_figures s processor)) (Some run)) None (task_in_figures s j).woken
@@ -201,7 +201,7 @@ placed-awaits processor now d id to s j inside =
     ∙ awaits-placed (eqb id j) at (task_in_figures s j).woken
 
 -- after moves that keep wakes and who runs
-switched-awaits : (left : Left) (processor now : ℕ) (run : Option ℕ) (s t : Figures) (j : ℕ)
+switched-awaits : (left : StopReason) (processor now : ℕ) (run : Option ℕ) (s t : Figures) (j : ℕ)
     → j < length s.tasks → KeepsWakes s t → (processor_in_figures t processor).running ≡ (processor_in_figures s processor).running
     → (task_in_figures (figures_switched left processor now run t) j).woken
     ≡ cond (begins_as j (running_task (processor_in_figures s processor)) (Some run)) None (task_in_figures s j).woken
@@ -356,7 +356,7 @@ starts_by s u processor now (Some id) start k new e =
       late = ap (option_map (λ (woken : ℕ). time_at processor now s - woken)) (k.at id);
     })
 
-starts_if : (b : Bool) (left : Left) (s t : Figures) (processor now : ℕ) (run : Option ℕ) (start : Start)
+starts_if : (b : Bool) (left : StopReason) (s t : Figures) (processor now : ℕ) (run : Option ℕ) (start : Start)
     → KeepsWakes s t → (processor_in_figures t processor).running ≡ (processor_in_figures s processor).running
     → is_run_by (processor_in_figures t processor).running run ≡ b
     → cond b None
@@ -369,7 +369,7 @@ starts_if false left s t processor now run start k r is e =
     starts_by s u processor now run start (both s t u k (kept-stopped left (time_at processor now s) (processor_in_figures t processor).running t))
     (ap (λ o. is_run_by o run) (sym r) ∙ is) e
 
-starts : (left : Left) (s t : Figures) (processor now : ℕ) (run : Option ℕ) (start : Start)
+starts : (left : StopReason) (s t : Figures) (processor now : ℕ) (run : Option ℕ) (start : Start)
     → KeepsWakes s t → (processor_in_figures t processor).running ≡ (processor_in_figures s processor).running
     → start_at left processor (time_at processor now s) run t ≡ Some start
     → Starts s processor now run start

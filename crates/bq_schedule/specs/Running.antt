@@ -3,8 +3,8 @@ use Rattle.std.specs.Prelude.{ℕ, ◌-◌, max, Bool, true, false, not, ◌==�
 use Rattle.std.specs.Option.{option_map}
 use Rattle.bq_schedule.specs.declared.change.Start.{Start}
 use Rattle.bq_schedule.specs.declared.change.Stop.{Stop}
-use Rattle.bq_schedule.specs.declared.change.Left.{Left}
-use Rattle.bq_schedule.specs.declared.change.Left.TheVariants.{Preempted, Blocked}
+use Rattle.bq_schedule.specs.declared.change.StopReason.{StopReason}
+use Rattle.bq_schedule.specs.declared.change.StopReason.TheVariants.{Preempted, Blocked}
 use Rattle.bq_schedule.specs.declared.figures.TaskFigures.{TaskFigures}
 use Rattle.bq_schedule.specs.declared.figures.ProcessorFigures.{ProcessorFigures}
 use Rattle.bq_disc.specs.Counts.{saturating_sum}
@@ -57,7 +57,7 @@ abbrev pub task_preempted : TaskFigures → ℕ → TaskFigures
 task_preempted t now = record t { since = now; preemptions = saturating_sum t.preemptions 1 }
 
 -- the task that ran stops, if there was one: it waits from now on if it was preempted
-abbrev pub stopped : Left → ℕ → Option Start → Figures → Figures
+abbrev pub stopped : StopReason → ℕ → Option Start → Figures → Figures
 stopped left now None s = s
 stopped Blocked now (Some start) s = s
 stopped Preempted now (Some start) s = figures_with_task s start.task (task_preempted (task_in_figures s start.task) now)
@@ -85,23 +85,23 @@ abbrev pub started : ℕ → ℕ → Option ℕ → Figures → Figures
 started processor now run s = figures_with_processor (begun_if processor now run s) processor (processor_runs (processor_in_figures s processor) (starts_as processor now run s))
 
 -- from now on this task runs at a processor, or none does; if it is the one that ran before, nothing changes
-abbrev pub figures_switched : Left → ℕ → ℕ → Option ℕ → Figures → Figures
+abbrev pub figures_switched : StopReason → ℕ → ℕ → Option ℕ → Figures → Figures
 figures_switched left processor now run s =
     let p = processor_in_figures s processor in
     if is_run_by p.running run then s else started processor now run (stopped left now p.running s)
 
 -- the stop of the task that ran, if there was one
-abbrev pub stop_of : Left → ℕ → Option Start → Option Stop
+abbrev pub stop_of : StopReason → ℕ → Option Start → Option Stop
 stop_of left now running = option_map (λ (start : Start). record { start = start; at = now; reason = left }) running
 
 -- the stop that a change of the running task reports, if the task changes
-abbrev pub stop_at : Left → ℕ → ℕ → Option ℕ → Figures → Option Stop
+abbrev pub stop_at : StopReason → ℕ → ℕ → Option ℕ → Figures → Option Stop
 stop_at left processor now run s =
     let p = processor_in_figures s processor in
     if is_run_by p.running run then None else stop_of left now p.running
 
 -- the start that a change of the running task reports, if the task changes
-abbrev pub start_at : Left → ℕ → ℕ → Option ℕ → Figures → Option Start
+abbrev pub start_at : StopReason → ℕ → ℕ → Option ℕ → Figures → Option Start
 start_at left processor now run s =
     let p = processor_in_figures s processor in
     if is_run_by p.running run then None else starts_as processor now run (stopped left now p.running s)

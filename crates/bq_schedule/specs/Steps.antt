@@ -15,7 +15,7 @@ use Rattle.bq_parts.specs.declared.reply.Reply.TheVariants.{Admitted, Placed, Dr
 use Rattle.bq_schedule.specs.declared.change.Change.{Change}
 use Rattle.bq_schedule.specs.declared.change.Decision.{Decision}
 use Rattle.bq_schedule.specs.declared.change.PulledTask.{PulledTask}
-use Rattle.bq_schedule.specs.declared.change.Left.TheVariants.{Preempted, Blocked}
+use Rattle.bq_schedule.specs.declared.change.StopReason.TheVariants.{Preempted, Blocked}
 use Rattle.bq_schedule.specs.declared.figures.ProcessorFigures.{ProcessorFigures}
 use Rattle.bq_schedule.specs.declared.figures.HookFigures.{HookFigures}
 use Rattle.bq_disc.specs.Counts.{saturating_sum}

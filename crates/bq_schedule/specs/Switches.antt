@@ -4,8 +4,8 @@ use Rattle.bq_parts.specs.declared.event.Event.{Event}
 use Rattle.bq_parts.specs.declared.event.Event.TheVariants.{Block}
 use Rattle.bq_schedule.specs.declared.change.Start.{Start}
 use Rattle.bq_schedule.specs.declared.change.Stop.{Stop}
-use Rattle.bq_schedule.specs.declared.change.Left.{Left}
-use Rattle.bq_schedule.specs.declared.change.Left.TheVariants.{Preempted, Blocked}
+use Rattle.bq_schedule.specs.declared.change.StopReason.{StopReason}
+use Rattle.bq_schedule.specs.declared.change.StopReason.TheVariants.{Preempted, Blocked}
 use Rattle.bq_schedule.specs.Moments.{Moment, History}
 use Rattle.bq_schedule.specs.Slices.{runner}
 use Rattle.bq_schedule.specs.Steps.{change, figures}
@@ -19,7 +19,7 @@ abbrev pub CeasesAt : ℕ → ℕ → Moment → History → Type 0
 CeasesAt processor task m past = (runner processor past ≡ Some task) × (runner processor (m ∷ past) ≢ Some task)
 
 -- why a task stops running: at a block it goes to sleep, and at any other event another task runs instead
-abbrev pub why_left : Event → Left
+abbrev pub why_left : Event → StopReason
 why_left (Block processor now) = Blocked
 why_left e = Preempted
 

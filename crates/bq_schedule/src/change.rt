@@ -153,12 +153,12 @@ pub struct Stop {
     /// The start that this stop ends.
     pub start: Start,
     pub at: u64,
-    pub reason: Left,
+    pub reason: StopReason,
 }
 
 /// Why a task stopped running.
 #[derive(Clone, Copy, PartialEq, Eq)]
-pub enum Left {
+pub enum StopReason {
     /// Another task runs instead, and this one waits.
     Preempted,
     /// The task went to sleep.

@@ -16,7 +16,7 @@ mod running;
 pub mod schedule;
 pub mod slice;
 
-pub use change::{Change, ClockReading, Decision, Left, PulledTask, Start, Stop, Wake};
+pub use change::{Change, ClockReading, Decision, PulledTask, Start, Stop, StopReason, Wake};
 pub use figures::{HookFigures, ProcessorFigures, TaskFigures};
 pub use latencies::Latencies;
 pub use percentiles::{Percentiles, WakeLatencies};

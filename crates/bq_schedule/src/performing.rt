@@ -4,7 +4,7 @@ ghost use Rattle.bq_schedule.specs.Steps.{weight_or_zero, figures_admitted, figu
 ghost use Rattle.bq_schedule.specs.Figures.{task_in_figures};
 ghost use Rattle.bq_schedule.specs.Runnable.{figures_left};
 
-use crate::change::{Change, Decision, Left, PulledTask, Wake};
+use crate::change::{Change, Decision, PulledTask, StopReason, Wake};
 use crate::schedule::Schedule;
 use bq_hooks::Hook;
 use bq_parts::{Event, Reply};
@@ -150,7 +150,7 @@ impl Schedule {
         let (reading, slice, ended) = self.read(processor, now);
         let at = reading.current;
         self.ask(processor, &decision);
-        let (stop, start) = self.switch(Left::Preempted, processor, at, run);
+        let (stop, start) = self.switch(StopReason::Preempted, processor, at, run);
         Change {
             reading: Some(reading),
             slice,
@@ -171,7 +171,7 @@ impl Schedule {
         let (reading, slice, ended) = self.read(processor, now);
         let at = reading.current;
         self.leave(id);
-        let (stop, start) = self.switch(Left::Blocked, processor, at, run);
+        let (stop, start) = self.switch(StopReason::Blocked, processor, at, run);
         Change {
             reading: Some(reading),
             slice,
@@ -200,7 +200,7 @@ impl Schedule {
         let at = reading.current;
         self.ask(processor, &decision);
         let pull = self.take_over(task, from, processor, at);
-        let (stop, start) = self.switch(Left::Preempted, processor, at, run);
+        let (stop, start) = self.switch(StopReason::Preempted, processor, at, run);
         Change {
             reading: Some(reading),
             slice,

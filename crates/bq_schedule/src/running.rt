@@ -4,7 +4,7 @@ ghost use Rattle.bq_schedule.specs.Figures.{task_in_figures};
 ghost use Rattle.bq_schedule.specs.Running.{is_run_by, start_of, starts_as, figures_begun, processor_runs, with_latency, task_started, task_preempted, stopped, started, figures_switched, stop_of, stop_at, start_at};
 
 use crate::asking::count_if;
-use crate::change::{Left, Start, Stop};
+use crate::change::{Start, Stop, StopReason};
 use crate::figures::{ProcessorFigures, TaskFigures};
 use crate::schedule::Schedule;
 
@@ -12,7 +12,7 @@ impl Schedule {
     /// From now on this task runs at a processor, or none does. If it is the one that ran before, nothing changes.
     pub(crate) fn switch(
         &mut self,
-        reason: Left,
+        reason: StopReason,
         processor: u8,
         now: u64,
         run: Option<u16>,
@@ -32,12 +32,12 @@ impl Schedule {
     }
 
     /// The task that ran stops, if there was one.
-    fn stop(&mut self, reason: Left, now: u64, running: Option<Start>) -> Option<Stop>
+    fn stop(&mut self, reason: StopReason, now: u64, running: Option<Start>) -> Option<Stop>
         ensures figures { self.new ≡ stopped reason now running self.old }
         ensures stop { result ≡ stop_of reason now running }
     {
         let start = running?;
-        if reason == Left::Preempted {
+        if reason == StopReason::Preempted {
             let mut task = self.task(start.task);
             task.preempt(now);
             self.set_task(start.task, task);
