@@ -175,14 +175,14 @@ time-with_latency t None = refl
 time-with_latency t (Some n) = refl
 
 -- what ceases to run keeps the works
-pub works-stopped : (left : StopReason) (now : ℕ) (running : Option Start) (s : Figures) → KeepsWorks s (stopped left now running s)
-works-stopped left now None s = works-id s
+pub works-stopped : (reason : StopReason) (now : ℕ) (running : Option Start) (s : Figures) → KeepsWorks s (stopped reason now running s)
+works-stopped reason now None s = works-id s
 works-stopped Blocked now (Some old) s = works-id s
 works-stopped Preempted now (Some old) s = works-with_task s old.task _ refl
 
 -- what is counted of a task that ceases to run keeps who runs
-running-stopped : (left : StopReason) (now : ℕ) (running : Option Start) (s : Figures) → KeepsRunning s (stopped left now running s)
-running-stopped left now None s = running-id s
+running-stopped : (reason : StopReason) (now : ℕ) (running : Option Start) (s : Figures) → KeepsRunning s (stopped reason now running s)
+running-stopped reason now None s = running-id s
 running-stopped Blocked now (Some old) s = running-id s
 running-stopped Preempted now (Some old) s = running-with_task s old.task _
 
@@ -210,16 +210,16 @@ works-started processor now run s =
     (works-with_processor (begun_if processor now run s) processor _
     (works-processor_runs (processor_in_figures s processor) (starts_as processor now run s) ∙ ap works (sym e)))
 
-works-switched_if : (b : Bool) (left : StopReason) (processor now : ℕ) (run : Option ℕ) (s : Figures) →
-    KeepsWorks s (cond b s (started processor now run (stopped left now (processor_in_figures s processor).running s)))
-works-switched_if true left processor now run s = works-id s
-works-switched_if false left processor now run s =
-    works-then _ _ _ (works-stopped left now (processor_in_figures s processor).running s)
-    (works-started processor now run (stopped left now (processor_in_figures s processor).running s))
+works-switched_if : (b : Bool) (reason : StopReason) (processor now : ℕ) (run : Option ℕ) (s : Figures) →
+    KeepsWorks s (cond b s (started processor now run (stopped reason now (processor_in_figures s processor).running s)))
+works-switched_if true reason processor now run s = works-id s
+works-switched_if false reason processor now run s =
+    works-then _ _ _ (works-stopped reason now (processor_in_figures s processor).running s)
+    (works-started processor now run (stopped reason now (processor_in_figures s processor).running s))
 
 -- a switch to a task, or to none, keeps the works
-pub works-switched : (left : StopReason) (processor now : ℕ) (run : Option ℕ) (s : Figures) → KeepsWorks s (figures_switched left processor now run s)
-works-switched left processor now run s = works-switched_if (is_run_by (processor_in_figures s processor).running run) left processor now run s
+pub works-switched : (reason : StopReason) (processor now : ℕ) (run : Option ℕ) (s : Figures) → KeepsWorks s (figures_switched reason processor now run s)
+works-switched reason processor now run s = works-switched_if (is_run_by (processor_in_figures s processor).running run) reason processor now run s
 
 -- what is reported of who runs at a processor holds afterwards, and at the others it is as it was
 abbrev pub RunsAs : Option (Option ℕ) → ℕ → Figures → Figures → Type 0
@@ -268,21 +268,21 @@ who_is (Some start) None e = cc
 who_is (Some start) (Some id) e = grind (arith, nat_tests)
 
 -- so it is after a switch, whether another task runs or not
-runs-switched_if : (b : Bool) (left : StopReason) (processor now : ℕ) (run : Option ℕ) (s : Figures)
+runs-switched_if : (b : Bool) (reason : StopReason) (processor now : ℕ) (run : Option ℕ) (s : Figures)
     → is_run_by (processor_in_figures s processor).running run ≡ b → processor < length s.processors
-    → RunsAs (Some run) processor s (cond b s (started processor now run (stopped left now (processor_in_figures s processor).running s)))
-runs-switched_if true left processor now run s e inside = (who_is (processor_in_figures s processor).running run e, λ j ne. refl)
-runs-switched_if false left processor now run s e inside =
-    let t = stopped left now (processor_in_figures s processor).running s in
-    let inside' : processor < length t.processors = omega (arith, (works-stopped left now (processor_in_figures s processor).running s).count) in
+    → RunsAs (Some run) processor s (cond b s (started processor now run (stopped reason now (processor_in_figures s processor).running s)))
+runs-switched_if true reason processor now run s e inside = (who_is (processor_in_figures s processor).running run e, λ j ne. refl)
+runs-switched_if false reason processor now run s e inside =
+    let t = stopped reason now (processor_in_figures s processor).running s in
+    let inside' : processor < length t.processors = omega (arith, (works-stopped reason now (processor_in_figures s processor).running s).count) in
     runs-after (Some run) processor s t (started processor now run t)
-    (running-stopped left now (processor_in_figures s processor).running s) (runs-started processor now run t inside')
+    (running-stopped reason now (processor_in_figures s processor).running s) (runs-started processor now run t inside')
 
 -- after a switch the processor runs whom it was to run, and the others whom they ran
-pub runs-switched : (left : StopReason) (processor now : ℕ) (run : Option ℕ) (s : Figures)
-    → processor < length s.processors → RunsAs (Some run) processor s (figures_switched left processor now run s)
-runs-switched left processor now run s inside =
-    runs-switched_if (is_run_by (processor_in_figures s processor).running run) left processor now run s refl inside
+pub runs-switched : (reason : StopReason) (processor now : ℕ) (run : Option ℕ) (s : Figures)
+    → processor < length s.processors → RunsAs (Some run) processor s (figures_switched reason processor now run s)
+runs-switched reason processor now run s inside =
+    runs-switched_if (is_run_by (processor_in_figures s processor).running run) reason processor now run s refl inside
 
 -- to charge a task for a slice keeps who runs
 running-with_charged : (s : Figures) (o : Option Slice) → KeepsRunning s (with_charged s o)

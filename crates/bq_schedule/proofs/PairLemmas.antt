@@ -50,67 +50,67 @@ pairs-none j running running' stop start stops starts same =
     ∙ ap (λ l. map (λ (sp : Stop). sp.start) l ++ option_to_list running') (sym stops)
 
 -- where a task stops and another starts, or none, the stop ends the start that ran, and the new start runs
-pairs-new : (j at : ℕ) (left : StopReason) (running start : Option Start)
+pairs-new : (j at : ℕ) (reason : StopReason) (running start : Option Start)
     → ((st : Start) → running ≡ Some st → st.processor ≡ j) → ((st : Start) → start ≡ Some st → st.processor ≡ j)
-    → Pairs j running start (stop_of left at running) start
-pairs-new j at left None start ran begun = filter-starts j start begun
-pairs-new j at left (Some old) start ran begun =
-    let stops : filter (is_stop_at j) (option_to_list (stop_of left at (Some old))) ≡ option_to_list (stop_of left at (Some old)) =
+    → Pairs j running start (stop_of reason at running) start
+pairs-new j at reason None start ran begun = filter-starts j start begun
+pairs-new j at reason (Some old) start ran begun =
+    let stops : filter (is_stop_at j) (option_to_list (stop_of reason at (Some old))) ≡ option_to_list (stop_of reason at (Some old)) =
     rw (ran old refl) (rw (eq-eqb j j refl) refl) in
     ap (λ l. old ∷ l) (filter-starts j start begun) ∙ ap (λ l. map (λ (sp : Stop). sp.start) l ++ option_to_list start) (sym stops)
 
 -- a switch pairs starts and stops at its processor, whether another task runs or not
-pairs-if : (b : Bool) (j processor at : ℕ) (left : StopReason) (run : Option ℕ) (u : Figures) (running running' : Option Start)
+pairs-if : (b : Bool) (j processor at : ℕ) (reason : StopReason) (run : Option ℕ) (u : Figures) (running running' : Option Start)
     (stop : Option Stop) (start : Option Start)
-    → processor ≡ j → ((st : Start) → running ≡ Some st → st.processor ≡ j) → stop ≡ cond b None (stop_of left at running)
+    → processor ≡ j → ((st : Start) → running ≡ Some st → st.processor ≡ j) → stop ≡ cond b None (stop_of reason at running)
     → start ≡ cond b None (starts_as processor at run u) → running' ≡ cond b running (starts_as processor at run u)
     → Pairs j running running' stop start
-pairs-if true j processor at left run u running running' stop start same ran stops starts runs =
+pairs-if true j processor at reason run u running running' stop start same ran stops starts runs =
     pairs-none j running running' stop start (ap (λ o. filter (is_stop_at j) (option_to_list o)) stops)
     (ap (λ o. filter (is_start_at j) (option_to_list o)) starts) runs
-pairs-if false j processor at left run u running running' stop start same ran stops starts runs =
+pairs-if false j processor at reason run u running running' stop start same ran stops starts runs =
     let begun : (st : Start) → starts_as processor at run u ≡ Some st → st.processor ≡ j =
     λ st e. begun-here false processor at run u None st e (λ none. cc) ∙ same in
     let P : Option Stop → Option Start → Option Start → Type 0 = λ sp st r. Pairs j running r sp st in
-    let p1 : P (stop_of left at running) (starts_as processor at run u) (starts_as processor at run u) =
-    pairs-new j at left running (starts_as processor at run u) ran begun in
+    let p1 : P (stop_of reason at running) (starts_as processor at run u) (starts_as processor at run u) =
+    pairs-new j at reason running (starts_as processor at run u) ran begun in
     rw (stops, starts, runs) p1
 
 -- a switch pairs starts and stops at each processor, its own and the others
-pairs-there : (s s' : Figures) (left : StopReason) (processor at : ℕ) (run : Option ℕ) (stop : Option Stop)
+pairs-there : (s s' : Figures) (reason : StopReason) (processor at : ℕ) (run : Option ℕ) (stop : Option Stop)
     (start : Option Start) (j : ℕ) (b : Bool)
-    → Switches s s' left processor at run stop start → ((b ≡ true) × (processor ≡ j)) ⊎ ((b ≡ false) × (processor ≢ j))
+    → Switches s s' reason processor at run stop start → ((b ≡ true) × (processor ≡ j)) ⊎ ((b ≡ false) × (processor ≢ j))
     → ((i : ℕ) (st : Start) → ((i ≡ j) ⊎ (i ≡ processor)) → (processor_in_figures s i).running ≡ Some st → st.processor ≡ i)
     → Pairs j (processor_in_figures s j).running (processor_in_figures s' j).running stop start
-pairs-there s s' left processor at run stop start j b t (inl same) here =
+pairs-there s s' reason processor at run stop start j b t (inl same) here =
     let running = (processor_in_figures s processor).running in
     let p : Pairs j running (processor_in_figures s' processor).running stop start =
-    pairs-if (is_run_by running run) j processor at left run t.before running (processor_in_figures s' processor).running stop start same.1
+    pairs-if (is_run_by running run) j processor at reason run t.before running (processor_in_figures s' processor).running stop start same.1
     (λ st e. here processor st (inr refl) e ∙ same.1) t.stops t.starts t.runs in
     let P : ℕ → Type 0 = λ k. Pairs j (processor_in_figures s k).running (processor_in_figures s' k).running stop start in
     subst P same.1 p
-pairs-there s s' left processor at run stop start j b t (inr other) here =
+pairs-there s s' reason processor at run stop start j b t (inr other) here =
     let running = (processor_in_figures s processor).running in
     pairs-none j (processor_in_figures s j).running (processor_in_figures s' j).running stop start
     (filter-no_stops j stop (λ sp e is.
     other.1 (sym
-    (here processor sp.start (inr refl) (stop_if (is_run_by running run) running left at run sp refl (sym t.stops ∙ e)).start)
+    (here processor sp.start (inr refl) (stop_if (is_run_by running run) running reason at run sp refl (sym t.stops ∙ e)).start)
     ∙ is))) (filter-no_starts j start
     (λ st e is. other.1 (sym (start_if (is_run_by running run) running processor at run t.before st refl (sym t.starts ∙ e)).here ∙ is)))
     (t.others j (λ is. other.1 (sym is)))
 
 -- so does an answer, whether it says who runs or not
-pairs-run : (s s' : Figures) (left : StopReason) (processor at : ℕ) (o : Option (Option ℕ)) (stop : Option Stop)
+pairs-run : (s s' : Figures) (reason : StopReason) (processor at : ℕ) (o : Option (Option ℕ)) (stop : Option Stop)
     (start : Option Start) (j : ℕ)
-    → ReportsRunning s s' left processor at o stop start
+    → ReportsRunning s s' reason processor at o stop start
     → ((i : ℕ) (st : Start) → ((i ≡ j) ⊎ (i ≡ processor)) → (processor_in_figures s i).running ≡ Some st → st.processor ≡ i)
     → Pairs j (processor_in_figures s j).running (processor_in_figures s' j).running stop start
-pairs-run s s' left processor at None stop start j t here =
+pairs-run s s' reason processor at None stop start j t here =
     pairs-none j (processor_in_figures s j).running (processor_in_figures s' j).running stop start
     (ap (λ o. filter (is_stop_at j) (option_to_list o)) t.0)
     (ap (λ o. filter (is_start_at j) (option_to_list o)) t.1) (t.2.at j)
-pairs-run s s' left processor at (Some run) stop start j t here =
-    pairs-there s s' left processor at run stop start j (eqb processor j) t (eqb_tells processor j) here
+pairs-run s s' reason processor at (Some run) stop start j t here =
+    pairs-there s s' reason processor at run stop start j (eqb processor j) t (eqb_tells processor j) here
 
 -- either of two processors that are there is there
 is_inside : (count i j processor : ℕ) → (i ≡ j) ⊎ (i ≡ processor) → j < count → processor < count → i < count

@@ -95,8 +95,8 @@ purse-with_latency t None = refl
 purse-with_latency t (Some n) = refl
 
 -- what is counted of a task that ceases to run, and of one that begins, keeps purses and pots:
-kept-stopped : (left : StopReason) (now : ℕ) (running : Option Start) (s : Figures) → KeepsPurses s (stopped left now running s)
-kept-stopped left now None s = kept-id s
+kept-stopped : (reason : StopReason) (now : ℕ) (running : Option Start) (s : Figures) → KeepsPurses s (stopped reason now running s)
+kept-stopped reason now None s = kept-id s
 kept-stopped Blocked now (Some old) s = kept-id s
 kept-stopped Preempted now (Some old) s = kept-with_task s old.task _ refl
 
@@ -118,16 +118,16 @@ kept-started processor now run s =
     (kept-with_processor (begun_if processor now run s) processor _
     (pot-processor_runs (processor_in_figures s processor) (starts_as processor now run s) ∙ ap pot (sym e)))
 
-kept-switched_if : (b : Bool) (left : StopReason) (processor now : ℕ) (run : Option ℕ) (s : Figures) →
-    KeepsPurses s (cond b s (started processor now run (stopped left now (processor_in_figures s processor).running s)))
-kept-switched_if true left processor now run s = kept-id s
-kept-switched_if false left processor now run s =
-    let t = stopped left now (processor_in_figures s processor).running s in
-    kept-then s t _ (kept-stopped left now (processor_in_figures s processor).running s) (kept-started processor now run t)
+kept-switched_if : (b : Bool) (reason : StopReason) (processor now : ℕ) (run : Option ℕ) (s : Figures) →
+    KeepsPurses s (cond b s (started processor now run (stopped reason now (processor_in_figures s processor).running s)))
+kept-switched_if true reason processor now run s = kept-id s
+kept-switched_if false reason processor now run s =
+    let t = stopped reason now (processor_in_figures s processor).running s in
+    kept-then s t _ (kept-stopped reason now (processor_in_figures s processor).running s) (kept-started processor now run t)
 
 -- a switch to a task, or to none, keeps purses and pots
-pub kept-switched : (left : StopReason) (processor now : ℕ) (run : Option ℕ) (s : Figures) → KeepsPurses s (figures_switched left processor now run s)
-kept-switched left processor now run s = kept-switched_if (is_run_by (processor_in_figures s processor).running run) left processor now run s
+pub kept-switched : (reason : StopReason) (processor now : ℕ) (run : Option ℕ) (s : Figures) → KeepsPurses s (figures_switched reason processor now run s)
+kept-switched reason processor now run s = kept-switched_if (is_run_by (processor_in_figures s processor).running run) reason processor now run s
 
 -- the fair time of a purse, where so much was given at each processor
 abbrev pub worth_at : (ℕ → ℕ) → Purse → Option ℕ → ℕ

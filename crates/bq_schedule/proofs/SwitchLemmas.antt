@@ -30,10 +30,10 @@ use Rattle.bq_schedule.proofs.FrameLemmas.{KeepsRunning, works-asked, works-leav
 use Rattle.bq_schedule.proofs.ClockLemmas.{figures-clocks, shows-performed, within-figures, not_below}
 
 -- a switch at a processor: what is reported of it, and what runs afterwards
-pub record Switches (s s' : Figures) (left : StopReason) (processor at : ℕ) (run : Option ℕ) (stop : Option Stop)
+pub record Switches (s s' : Figures) (reason : StopReason) (processor at : ℕ) (run : Option ℕ) (stop : Option Stop)
     (start : Option Start) : Type 0 where
   pub before : Figures
-  pub stops : stop ≡ cond (is_run_by (processor_in_figures s processor).running run) None (stop_of left at (processor_in_figures s processor).running)
+  pub stops : stop ≡ cond (is_run_by (processor_in_figures s processor).running run) None (stop_of reason at (processor_in_figures s processor).running)
   pub starts : start ≡ cond (is_run_by (processor_in_figures s processor).running run) None (starts_as processor at run before)
   pub runs : (processor_in_figures s' processor).running
       ≡ cond (is_run_by (processor_in_figures s processor).running run) (processor_in_figures s processor).running (starts_as processor at run before)
@@ -53,36 +53,36 @@ running-started processor at run u inside =
     ∙ ap (λ (p : ProcessorFigures). p.running) (get_or-set_same u.processors processor q unread inside)
     ∙ running-processor_runs (processor_in_figures u processor) (starts_as processor at run u)
 
-running-switched_if : (b : Bool) (left : StopReason) (processor at : ℕ) (run : Option ℕ) (t : Figures)
+running-switched_if : (b : Bool) (reason : StopReason) (processor at : ℕ) (run : Option ℕ) (t : Figures)
     → processor < length t.processors
-    → let u = stopped left at (processor_in_figures t processor).running t in
+    → let u = stopped reason at (processor_in_figures t processor).running t in
     (processor_in_figures (cond b t (started processor at run u)) processor).running
     ≡ cond b (processor_in_figures t processor).running (starts_as processor at run u)
-running-switched_if true left processor at run t inside = refl
-running-switched_if false left processor at run t inside =
-    let u = stopped left at (processor_in_figures t processor).running t in
-    running-started processor at run u (omega (arith, (works-stopped left at (processor_in_figures t processor).running t).count))
+running-switched_if true reason processor at run t inside = refl
+running-switched_if false reason processor at run t inside =
+    let u = stopped reason at (processor_in_figures t processor).running t in
+    running-started processor at run u (omega (arith, (works-stopped reason at (processor_in_figures t processor).running t).count))
 
 -- after a step that keeps who runs, and before another, a switch is one of the whole
-switch : (left : StopReason) (processor at : ℕ) (run : Option ℕ) (s t s' : Figures)
-    → KeepsRunning s t → processor < length t.processors → KeepsRunning (figures_switched left processor at run t) s'
-    → Switches s s' left processor at run (stop_at left processor at run t) (start_at left processor at run t)
-switch left processor at run s t s' k inside k' =
-    let u = stopped left at (processor_in_figures t processor).running t in
+switch : (reason : StopReason) (processor at : ℕ) (run : Option ℕ) (s t s' : Figures)
+    → KeepsRunning s t → processor < length t.processors → KeepsRunning (figures_switched reason processor at run t) s'
+    → Switches s s' reason processor at run (stop_at reason processor at run t) (start_at reason processor at run t)
+switch reason processor at run s t s' k inside k' =
+    let u = stopped reason at (processor_in_figures t processor).running t in
     record {
       before = u;
-      stops = ap (λ o. cond (is_run_by o run) None (stop_of left at o)) (k.at processor);
+      stops = ap (λ o. cond (is_run_by o run) None (stop_of reason at o)) (k.at processor);
       starts = ap (λ o. cond (is_run_by o run) None (starts_as processor at run u)) (k.at processor);
       runs =
-          k'.at processor ∙ running-switched_if (is_run_by (processor_in_figures t processor).running run) left processor at run t inside
+          k'.at processor ∙ running-switched_if (is_run_by (processor_in_figures t processor).running run) reason processor at run t inside
           ∙ ap (λ o. cond (is_run_by o run) o (starts_as processor at run u)) (k.at processor);
-      others = λ j ne. k'.at j ∙ (runs-switched left processor at run t inside).1 j ne ∙ k.at j;
+      others = λ j ne. k'.at j ∙ (runs-switched reason processor at run t inside).1 j ne ∙ k.at j;
     }
 
 -- what an answer tells of who runs, by what it shows: nothing where it does not say who does
 abbrev pub ReportsRunning : Figures → Figures → StopReason → ℕ → ℕ → Option (Option ℕ) → Option Stop → Option Start → Type 0
-ReportsRunning s s' left processor at None stop start = (stop ≡ None) × (start ≡ None) × KeepsRunning s s'
-ReportsRunning s s' left processor at (Some run) stop start = Switches s s' left processor at run stop start
+ReportsRunning s s' reason processor at None stop start = (stop ≡ None) × (start ≡ None) × KeepsRunning s s'
+ReportsRunning s s' reason processor at (Some run) stop start = Switches s s' reason processor at run stop start
 
 -- what an answer tells of who runs, by the sight of an event and its answer
 abbrev pub ReportsSwitch : Figures → Figures → Event → Option Sight → Option Stop → Option Start → Type 0
@@ -211,22 +211,22 @@ start_if false running processor at (Some id) u start is e =
     subst P x (record { here = refl; task = refl; time = refl; new = not_who running (Some id) is })
 
 -- a stop that a switch tells
-pub record IsStop (running : Option Start) (left : StopReason) (at : ℕ) (run : Option ℕ) (stop : Stop) : Type 0 where
+pub record IsStop (running : Option Start) (reason : StopReason) (at : ℕ) (run : Option ℕ) (stop : Stop) : Type 0 where
   pub start : running ≡ Some stop.start
   pub time : stop.at ≡ at
-  pub why : stop.reason ≡ left
+  pub why : stop.reason ≡ reason
   pub new : option_map (λ (x : Start). x.task) running ≢ run
 
 -- what is reported to stop, where another runs than did, is such a stop
-pub stop_if : (b : Bool) (running : Option Start) (left : StopReason) (at : ℕ) (run : Option ℕ) (stop : Stop)
-    → is_run_by running run ≡ b → cond b None (stop_of left at running) ≡ Some stop
-    → IsStop running left at run stop
-stop_if true running left at run stop is e = cc
-stop_if false None left at run stop is e = cc
-stop_if false (Some old) left at run stop is e =
-    let x : Stop = record { start = old; at = at; reason = left } in
+pub stop_if : (b : Bool) (running : Option Start) (reason : StopReason) (at : ℕ) (run : Option ℕ) (stop : Stop)
+    → is_run_by running run ≡ b → cond b None (stop_of reason at running) ≡ Some stop
+    → IsStop running reason at run stop
+stop_if true running reason at run stop is e = cc
+stop_if false None reason at run stop is e = cc
+stop_if false (Some old) reason at run stop is e =
+    let x : Stop = record { start = old; at = at; reason = reason } in
     let same : x ≡ stop = cc in
-    let P : Stop → Type 0 = λ st. IsStop (Some old) left at run st in
+    let P : Stop → Type 0 = λ st. IsStop (Some old) reason at run st in
     subst P same (record { start = refl; time = refl; why = refl; new = not_who (Some old) run is })
 
 -- of whatever an option holds
@@ -268,16 +268,16 @@ IsStartOf count past o st =
     × (st.at ≡ clock_after st.processor (clock st.processor past) o)
 
 -- a start that is told is of a task that begins to run there, at that reading, by what the answer shows:
-start-run : (count : ℕ) (past : History) (processor now : ℕ) (o : Option (Option ℕ)) (s' : Figures) (left : StopReason)
+start-run : (count : ℕ) (past : History) (processor now : ℕ) (o : Option (Option ℕ)) (s' : Figures) (reason : StopReason)
     (stop : Option Stop) (start : Option Start) (st : Start)
     → IsOfProcessors count past → processor < count
-    → ReportsRunning (figures count past) s' left processor (time_at processor now (figures count past)) o stop start
+    → ReportsRunning (figures count past) s' reason processor (time_at processor now (figures count past)) o stop start
     → start ≡ Some st
     → IsStartOf count past (Some (record { processor = processor; now = now; run = o })) st
-start-run count past processor now None s' left stop start st h w t e =
+start-run count past processor now None s' reason stop start st h w t e =
     let t1 = t.1 in
     cc
-start-run count past processor now (Some run) s' left stop start st h w t e =
+start-run count past processor now (Some run) s' reason stop start st h w t e =
     let s = figures count past in
     let x : Sight = record { processor = processor; now = now; run = Some run } in
     let c = figures-clocks count past processor h w in
@@ -305,14 +305,14 @@ start-shown count past (Some x) s' e stop start st h w t is =
     start-run count past x.processor x.now x.run s' (why_left e) stop start st h w t is
 
 -- each start of a task that begins to run is reported
-begun-there : (count : ℕ) (past : History) (processor now j task : ℕ) (run : Option ℕ) (s' : Figures) (left : StopReason)
+begun-there : (count : ℕ) (past : History) (processor now j task : ℕ) (run : Option ℕ) (s' : Figures) (reason : StopReason)
     (stop : Option Stop) (start : Option Start) (b : Bool)
     → IsOfProcessors count past → processor < count
-    → Switches (figures count past) s' left processor (time_at processor now (figures count past)) run stop start
+    → Switches (figures count past) s' reason processor (time_at processor now (figures count past)) run stop start
     → ((b ≡ true) × (processor ≡ j)) ⊎ ((b ≡ false) × (processor ≢ j)) → cond b run (runner j past) ≡ Some task
     → runner j past ≢ Some task
     → IsSomeAnd start (λ st. (st.processor ≡ j) × (st.task ≡ task))
-begun-there count past processor now j task run s' left stop start true h w t (inl same) is new =
+begun-there count past processor now j task run s' reason stop start true h w t (inl same) is new =
     let s = figures count past in
     let c = figures-clocks count past processor h w in
     let off : is_run_by (processor_in_figures s processor).running run ≡ false =
@@ -321,20 +321,20 @@ begun-there count past processor now j task run s' left stop start true h w t (i
     and_some start _ (start_of processor task (time_at processor now s) (task_in_figures t.before task))
     (t.starts ∙ ap (λ v. cond v None (starts_as processor (time_at processor now s) run t.before)) off
     ∙ ap (λ r. starts_as processor (time_at processor now s) r t.before) is) (same.1, refl)
-begun-there count past processor now j task run s' left stop start false h w t (inl same) is new = absurd (cc)
-begun-there count past processor now j task run s' left stop start true h w t (inr other) is new = absurd (cc)
-begun-there count past processor now j task run s' left stop start false h w t (inr other) is new = absurd (new is)
+begun-there count past processor now j task run s' reason stop start false h w t (inl same) is new = absurd (cc)
+begun-there count past processor now j task run s' reason stop start true h w t (inr other) is new = absurd (cc)
+begun-there count past processor now j task run s' reason stop start false h w t (inr other) is new = absurd (new is)
 
-begun-run : (count : ℕ) (past : History) (processor now j task : ℕ) (o : Option (Option ℕ)) (s' : Figures) (left : StopReason)
+begun-run : (count : ℕ) (past : History) (processor now j task : ℕ) (o : Option (Option ℕ)) (s' : Figures) (reason : StopReason)
     (stop : Option Stop) (start : Option Start)
     → IsOfProcessors count past → processor < count
-    → ReportsRunning (figures count past) s' left processor (time_at processor now (figures count past)) o stop start
+    → ReportsRunning (figures count past) s' reason processor (time_at processor now (figures count past)) o stop start
     → BeginsWith j task past (Some (record { processor = processor; now = now; run = o }))
     → IsSomeAnd start (λ st. (st.processor ≡ j) × (st.task ≡ task))
-begun-run count past processor now j task None s' left stop start h w t begins =
+begun-run count past processor now j task None s' reason stop start h w t begins =
     absurd (begins.1 (sym (same-cond (eqb processor j) (runner j past)) ∙ begins.0))
-begun-run count past processor now j task (Some run) s' left stop start h w t begins =
-    begun-there count past processor now j task run s' left stop start (eqb processor j) h w t (eqb_tells processor j) begins.0 begins.1
+begun-run count past processor now j task (Some run) s' reason stop start h w t begins =
+    begun-there count past processor now j task run s' reason stop start (eqb processor j) h w t (eqb_tells processor j) begins.0 begins.1
 
 begun-shown : (count : ℕ) (past : History) (o : Option Sight) (s' : Figures) (e : Event) (stop : Option Stop)
     (start : Option Start) (j task : ℕ)
@@ -378,26 +378,26 @@ begun-here false processor at (Some id) u running st e before =
     ap (λ (y : Start). y.processor) (sym x)
 
 -- where what ran at a processor had begun there, what runs after a moment has too, by cases:
-here-there : (s s' : Figures) (left : StopReason) (processor at : ℕ) (run : Option ℕ) (stop : Option Stop)
+here-there : (s s' : Figures) (reason : StopReason) (processor at : ℕ) (run : Option ℕ) (stop : Option Stop)
     (start : Option Start) (j : ℕ) (st : Start) (b : Bool)
-    → Switches s s' left processor at run stop start → ((b ≡ true) × (processor ≡ j)) ⊎ ((b ≡ false) × (processor ≢ j))
+    → Switches s s' reason processor at run stop start → ((b ≡ true) × (processor ≡ j)) ⊎ ((b ≡ false) × (processor ≢ j))
     → ((processor_in_figures s j).running ≡ Some st → st.processor ≡ j) → (processor_in_figures s' j).running ≡ Some st
     → st.processor ≡ j
-here-there s s' left processor at run stop start j st b t (inl same) before e =
+here-there s s' reason processor at run stop start j st b t (inl same) before e =
     begun-here (is_run_by (processor_in_figures s processor).running run) processor at run t.before
     (processor_in_figures s processor).running st (sym t.runs ∙ ap (λ k. (processor_in_figures s' k).running) same.1 ∙ e)
     (λ is. before (ap (λ k. (processor_in_figures s k).running) (sym same.1) ∙ is) ∙ sym same.1)
     ∙ same.1
-here-there s s' left processor at run stop start j st b t (inr other) before e = before (sym (t.others j (λ is. other.1 (sym is))) ∙ e)
+here-there s s' reason processor at run stop start j st b t (inr other) before e = before (sym (t.others j (λ is. other.1 (sym is))) ∙ e)
 
-here-run : (s s' : Figures) (left : StopReason) (processor at : ℕ) (o : Option (Option ℕ)) (stop : Option Stop)
+here-run : (s s' : Figures) (reason : StopReason) (processor at : ℕ) (o : Option (Option ℕ)) (stop : Option Stop)
     (start : Option Start) (j : ℕ) (st : Start)
-    → ReportsRunning s s' left processor at o stop start → ((processor_in_figures s j).running ≡ Some st → st.processor ≡ j)
+    → ReportsRunning s s' reason processor at o stop start → ((processor_in_figures s j).running ≡ Some st → st.processor ≡ j)
     → (processor_in_figures s' j).running ≡ Some st
     → st.processor ≡ j
-here-run s s' left processor at None stop start j st t before e = before (sym (t.2.at j) ∙ e)
-here-run s s' left processor at (Some run) stop start j st t before e =
-    here-there s s' left processor at run stop start j st (eqb processor j) t (eqb_tells processor j) before e
+here-run s s' reason processor at None stop start j st t before e = before (sym (t.2.at j) ∙ e)
+here-run s s' reason processor at (Some run) stop start j st t before e =
+    here-there s s' reason processor at run stop start j st (eqb processor j) t (eqb_tells processor j) before e
 
 here-shown : (s s' : Figures) (e : Event) (o : Option Sight) (stop : Option Stop) (start : Option Start) (j : ℕ) (st : Start)
     → ReportsSwitch s s' e o stop start → ((processor_in_figures s j).running ≡ Some st → st.processor ≡ j)
@@ -463,47 +463,47 @@ stop-shown count past None s' e stop start sp h w t is =
 stop-shown count past (Some x) s' e stop start sp h w t is = stop-run count past e x.processor x.now x.run s' stop start sp h w t is
 
 -- of what ran something is reported where it is another than runs now
-ceased-reported : (running : Option Start) (left : StopReason) (at j task : ℕ) (stop : Option Stop)
-    → stop ≡ stop_of left at running → option_map (λ (x : Start). x.task) running ≡ Some task
+ceased-reported : (running : Option Start) (reason : StopReason) (at j task : ℕ) (stop : Option Stop)
+    → stop ≡ stop_of reason at running → option_map (λ (x : Start). x.task) running ≡ Some task
     → ((st : Start) → running ≡ Some st → st.processor ≡ j)
     → IsSomeAnd stop (λ sp. (sp.start.processor ≡ j) × (sp.start.task ≡ task))
-ceased-reported None left at j task stop is e here = cc
-ceased-reported (Some old) left at j task stop is e here =
+ceased-reported None reason at j task stop is e here = cc
+ceased-reported (Some old) reason at j task stop is e here =
     let same : old.task ≡ task = cc in
-    and_some stop _ (record { start = old; at = at; reason = left }) is (here old refl, same)
+    and_some stop _ (record { start = old; at = at; reason = reason }) is (here old refl, same)
 
 -- of each task that ceases to run a stop is told, by cases:
-ceased-there : (count : ℕ) (past : History) (processor now j task : ℕ) (run : Option ℕ) (s' : Figures) (left : StopReason)
+ceased-there : (count : ℕ) (past : History) (processor now j task : ℕ) (run : Option ℕ) (s' : Figures) (reason : StopReason)
     (stop : Option Stop) (start : Option Start) (b : Bool)
     → IsOfProcessors count past → processor < count
-    → Switches (figures count past) s' left processor (time_at processor now (figures count past)) run stop start
+    → Switches (figures count past) s' reason processor (time_at processor now (figures count past)) run stop start
     → ((b ≡ true) × (processor ≡ j)) ⊎ ((b ≡ false) × (processor ≢ j)) → runner j past ≡ Some task
     → cond b run (runner j past) ≢ Some task
     → IsSomeAnd stop (λ sp. (sp.start.processor ≡ j) × (sp.start.task ≡ task))
-ceased-there count past processor now j task run s' left stop start true h w t (inl same) ran new =
+ceased-there count past processor now j task run s' reason stop start true h w t (inl same) ran new =
     let s = figures count past in
     let c = figures-clocks count past processor h w in
     let ran' : option_map (λ (x : Start). x.task) (processor_in_figures s processor).running ≡ Some task =
     c.1 ∙ ap (λ k. runner k past) same.1 ∙ ran in
     let off : is_run_by (processor_in_figures s processor).running run ≡ false =
     is_new (processor_in_figures s processor).running run (is_run_by (processor_in_figures s processor).running run) refl (λ e. new (sym e ∙ ran')) in
-    ceased-reported (processor_in_figures s processor).running left (time_at processor now s) j task stop
-    (t.stops ∙ ap (λ v. cond v None (stop_of left (time_at processor now s) (processor_in_figures s processor).running)) off)
+    ceased-reported (processor_in_figures s processor).running reason (time_at processor now s) j task stop
+    (t.stops ∙ ap (λ v. cond v None (stop_of reason (time_at processor now s) (processor_in_figures s processor).running)) off)
     ran' (λ st e. runs_here count past h processor st w e ∙ same.1)
-ceased-there count past processor now j task run s' left stop start false h w t (inl same) ran new = absurd (cc)
-ceased-there count past processor now j task run s' left stop start true h w t (inr other) ran new = absurd (cc)
-ceased-there count past processor now j task run s' left stop start false h w t (inr other) ran new = absurd (new ran)
+ceased-there count past processor now j task run s' reason stop start false h w t (inl same) ran new = absurd (cc)
+ceased-there count past processor now j task run s' reason stop start true h w t (inr other) ran new = absurd (cc)
+ceased-there count past processor now j task run s' reason stop start false h w t (inr other) ran new = absurd (new ran)
 
-ceased-run : (count : ℕ) (past : History) (processor now j task : ℕ) (o : Option (Option ℕ)) (s' : Figures) (left : StopReason)
+ceased-run : (count : ℕ) (past : History) (processor now j task : ℕ) (o : Option (Option ℕ)) (s' : Figures) (reason : StopReason)
     (stop : Option Stop) (start : Option Start)
     → IsOfProcessors count past → processor < count
-    → ReportsRunning (figures count past) s' left processor (time_at processor now (figures count past)) o stop start
+    → ReportsRunning (figures count past) s' reason processor (time_at processor now (figures count past)) o stop start
     → CeasesWith j task past (Some (record { processor = processor; now = now; run = o }))
     → IsSomeAnd stop (λ sp. (sp.start.processor ≡ j) × (sp.start.task ≡ task))
-ceased-run count past processor now j task None s' left stop start h w t ceases =
+ceased-run count past processor now j task None s' reason stop start h w t ceases =
     absurd (ceases.1 (same-cond (eqb processor j) (runner j past) ∙ ceases.0))
-ceased-run count past processor now j task (Some run) s' left stop start h w t ceases =
-    ceased-there count past processor now j task run s' left stop start (eqb processor j) h w t (eqb_tells processor j) ceases.0 ceases.1
+ceased-run count past processor now j task (Some run) s' reason stop start h w t ceases =
+    ceased-there count past processor now j task run s' reason stop start (eqb processor j) h w t (eqb_tells processor j) ceases.0 ceases.1
 
 ceased-shown : (count : ℕ) (past : History) (o : Option Sight) (s' : Figures) (e : Event) (stop : Option Stop)
     (start : Option Start) (j task : ℕ)

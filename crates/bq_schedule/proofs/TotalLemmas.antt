@@ -166,9 +166,9 @@ goes-admitted id nice s = record {
 }
 
 -- a switch to a task, or to none, is such a move
-goes-switched : (left : StopReason) (processor now : ℕ) (run : Option ℕ) (s : Figures) → Goes s (figures_switched left processor now run s)
-goes-switched left processor now run s =
-    goes-purses s _ (works-switched left processor now run s) (PurseLemmas.kept-switched left processor now run s)
+goes-switched : (reason : StopReason) (processor now : ℕ) (run : Option ℕ) (s : Figures) → Goes s (figures_switched reason processor now run s)
+goes-switched reason processor now run s =
+    goes-purses s _ (works-switched reason processor now run s) (PurseLemmas.kept-switched reason processor now run s)
 
 -- a task that is pulled, if there is one, is such a move
 goes-taken : (processor now : ℕ) (task : Option ℕ) (s : Figures) → Goes s (figures_taken processor now task s)

@@ -157,24 +157,24 @@ if_preempted Preempted b = b
 if_preempted Blocked b = false
 
 -- after a stop the task that ran waits from then on, if it was preempted
-since-stopped : (left : StopReason) (at : ℕ) (running : Option Start) (s : Figures) (j : ℕ)
+since-stopped : (reason : StopReason) (at : ℕ) (running : Option Start) (s : Figures) (j : ℕ)
     → j < length s.tasks
-    → (task_in_figures (stopped left at running s) j).since
-    ≡ cond (if_preempted left (is_this j (option_map (λ (x : Start). x.task) running))) at (task_in_figures s j).since
+    → (task_in_figures (stopped reason at running s) j).since
+    ≡ cond (if_preempted reason (is_this j (option_map (λ (x : Start). x.task) running))) at (task_in_figures s j).since
 since-stopped Preempted at None s j inside = refl
 since-stopped Blocked at None s j inside = refl
 since-stopped Blocked at (Some old) s j inside = refl
 since-stopped Preempted at (Some old) s j inside = set-at (λ t. t.since) s old.task j _ (eqb old.task j) inside (eqb_tells old.task j)
 
 -- a stop adds nothing to how long tasks have waited, and leaves as many tasks as before:
-waited-stopped : (left : StopReason) (at : ℕ) (running : Option Start) (s : Figures) (j : ℕ)
-    → (task_in_figures (stopped left at running s) j).waited ≡ (task_in_figures s j).waited
-waited-stopped left at None s j = refl
+waited-stopped : (reason : StopReason) (at : ℕ) (running : Option Start) (s : Figures) (j : ℕ)
+    → (task_in_figures (stopped reason at running s) j).waited ≡ (task_in_figures s j).waited
+waited-stopped reason at None s j = refl
 waited-stopped Blocked at (Some old) s j = refl
 waited-stopped Preempted at (Some old) s j = task_kept (λ (t : TaskFigures). t.waited) s old.task j _ refl
 
-tasks-stopped : (left : StopReason) (at : ℕ) (running : Option Start) (s : Figures) → length (stopped left at running s).tasks ≡ length s.tasks
-tasks-stopped left at None s = refl
+tasks-stopped : (reason : StopReason) (at : ℕ) (running : Option Start) (s : Figures) → length (stopped reason at running s).tasks ≡ length s.tasks
+tasks-stopped reason at None s = refl
 tasks-stopped Blocked at (Some old) s = refl
 tasks-stopped Preempted at (Some old) s = length-set s.tasks old.task _
 
@@ -216,77 +216,77 @@ gives_way-same : (b : Bool) → (b && not b) ≡ false
 gives_way-same true = refl
 gives_way-same false = refl
 
-none-preempted : (left : StopReason) → if_preempted left false ≡ false
+none-preempted : (reason : StopReason) → if_preempted reason false ≡ false
 none-preempted Preempted = refl
 none-preempted Blocked = refl
 
 -- since when a task waits after a switch, by whether another runs
-since-switched_if : (b : Bool) (left : StopReason) (processor at : ℕ) (run : Option ℕ) (s : Figures) (j : ℕ)
+since-switched_if : (b : Bool) (reason : StopReason) (processor at : ℕ) (run : Option ℕ) (s : Figures) (j : ℕ)
     → is_run_by (processor_in_figures s processor).running run ≡ b → j < length s.tasks
-    → (task_in_figures (cond b s (started processor at run (stopped left at (processor_in_figures s processor).running s))) j).since
-    ≡ cond (if_preempted left (gives_way j (running_task (processor_in_figures s processor)) run)) at (task_in_figures s j).since
-since-switched_if true left processor at run s j e inside =
+    → (task_in_figures (cond b s (started processor at run (stopped reason at (processor_in_figures s processor).running s))) j).since
+    ≡ cond (if_preempted reason (gives_way j (running_task (processor_in_figures s processor)) run)) at (task_in_figures s j).since
+since-switched_if true reason processor at run s j e inside =
     let running = (processor_in_figures s processor).running in
     let same : running_task (processor_in_figures s processor) ≡ run = who_is running run e in
-    sym (ap (λ b. cond (if_preempted left b) at (task_in_figures s j).since)
+    sym (ap (λ b. cond (if_preempted reason b) at (task_in_figures s j).since)
     (ap (λ w. is_this j w && not (is_this j run)) same ∙ gives_way-same (is_this j run))
-    ∙ ap (λ b. cond b at (task_in_figures s j).since) (none-preempted left))
-since-switched_if false left processor at run s j e inside =
+    ∙ ap (λ b. cond b at (task_in_figures s j).since) (none-preempted reason))
+since-switched_if false reason processor at run s j e inside =
     let running = (processor_in_figures s processor).running in
-    since-begun_if processor at run (stopped left at running s) j ∙ since-stopped left at running s j inside
-    ∙ ap (λ b. cond (if_preempted left b) at (task_in_figures s j).since)
+    since-begun_if processor at run (stopped reason at running s) j ∙ since-stopped reason at running s j inside
+    ∙ ap (λ b. cond (if_preempted reason b) at (task_in_figures s j).since)
     (sym (gives_way-new j (running_task (processor_in_figures s processor)) run (is_this j (running_task (processor_in_figures s processor)))
     (is_this j run) refl refl (not_who running run e)))
 
 -- after a switch the task that gave way waits, where it is preempted
-since-switched : (left : StopReason) (processor at : ℕ) (run : Option ℕ) (s : Figures) (j : ℕ)
+since-switched : (reason : StopReason) (processor at : ℕ) (run : Option ℕ) (s : Figures) (j : ℕ)
     → j < length s.tasks
-    → (task_in_figures (figures_switched left processor at run s) j).since
-    ≡ cond (if_preempted left (gives_way j (running_task (processor_in_figures s processor)) run)) at (task_in_figures s j).since
-since-switched left processor at run s j inside =
-    since-switched_if (is_run_by (processor_in_figures s processor).running run) left processor at run s j refl inside
+    → (task_in_figures (figures_switched reason processor at run s) j).since
+    ≡ cond (if_preempted reason (gives_way j (running_task (processor_in_figures s processor)) run)) at (task_in_figures s j).since
+since-switched reason processor at run s j inside =
+    since-switched_if (is_run_by (processor_in_figures s processor).running run) reason processor at run s j refl inside
 
 -- how long a task has waited after a switch, by whether another runs
-waited-switched_if : (b : Bool) (left : StopReason) (processor at : ℕ) (run : Option ℕ) (s : Figures) (j : ℕ)
+waited-switched_if : (b : Bool) (reason : StopReason) (processor at : ℕ) (run : Option ℕ) (s : Figures) (j : ℕ)
     → j < length s.tasks → (task_in_figures s j).waited ≤ 18446744073709551615
-    → let u = stopped left at (processor_in_figures s processor).running s in
+    → let u = stopped reason at (processor_in_figures s processor).running s in
     (task_in_figures (cond b s (started processor at run u)) j).waited
     ≡ saturating_sum (task_in_figures s j).waited (wait_of_start j (cond b None (starts_as processor at run u)))
-waited-switched_if true left processor at run s j inside h = saturating_sum-none (task_in_figures s j).waited h
-waited-switched_if false left processor at run s j inside h =
+waited-switched_if true reason processor at run s j inside h = saturating_sum-none (task_in_figures s j).waited h
+waited-switched_if false reason processor at run s j inside h =
     let running = (processor_in_figures s processor).running in
-    let u = stopped left at running s in
-    let w = waited-stopped left at running s j in
-    waited-begun_if processor at run u j (omega (arith, tasks-stopped left at running s)) (omega (arith, w))
+    let u = stopped reason at running s in
+    let w = waited-stopped reason at running s j in
+    waited-begun_if processor at run u j (omega (arith, tasks-stopped reason at running s)) (omega (arith, w))
     ∙ ap (λ n. saturating_sum n (wait_of_start j (starts_as processor at run u))) w
 
 -- after a switch what the task that begins has waited counts
-waited-switched : (left : StopReason) (processor at : ℕ) (run : Option ℕ) (s : Figures) (j : ℕ)
+waited-switched : (reason : StopReason) (processor at : ℕ) (run : Option ℕ) (s : Figures) (j : ℕ)
     → j < length s.tasks → (task_in_figures s j).waited ≤ 18446744073709551615
-    → (task_in_figures (figures_switched left processor at run s) j).waited
-    ≡ saturating_sum (task_in_figures s j).waited (wait_of_start j (start_at left processor at run s))
-waited-switched left processor at run s j inside h =
-    waited-switched_if (is_run_by (processor_in_figures s processor).running run) left processor at run s j inside h
+    → (task_in_figures (figures_switched reason processor at run s) j).waited
+    ≡ saturating_sum (task_in_figures s j).waited (wait_of_start j (start_at reason processor at run s))
+waited-switched reason processor at run s j inside h =
+    waited-switched_if (is_run_by (processor_in_figures s processor).running run) reason processor at run s j inside h
 
 -- what a start says of its task's wait, by whether another runs
-starts-waited_if : (b : Bool) (left : StopReason) (processor at : ℕ) (run : Option ℕ) (s : Figures) (st : Start)
-    → let u = stopped left at (processor_in_figures s processor).running s in
+starts-waited_if : (b : Bool) (reason : StopReason) (processor at : ℕ) (run : Option ℕ) (s : Figures) (st : Start)
+    → let u = stopped reason at (processor_in_figures s processor).running s in
     cond b None (starts_as processor at run u) ≡ Some st →
     st.waited ≡ st.at - (task_in_figures (cond b s (started processor at run u)) st.task).since
-starts-waited_if true left processor at run s st e = cc
-starts-waited_if false left processor at None s st e = cc
-starts-waited_if false left processor at (Some id) s st e =
-    let u = stopped left at (processor_in_figures s processor).running s in
+starts-waited_if true reason processor at run s st e = cc
+starts-waited_if false reason processor at None s st e = cc
+starts-waited_if false reason processor at (Some id) s st e =
+    let u = stopped reason at (processor_in_figures s processor).running s in
     let x : start_of processor id at (task_in_figures u id) ≡ st = cc in
     let P : Start → Type 0 = λ y. y.waited ≡ y.at - (task_in_figures (started processor at (Some id) u) y.task).since in
     subst P x (ap (λ n. at - n) (sym (since-begun_if processor at (Some id) u id)))
 
 -- a start that a switch tells says how long its task has waited
-starts-waited : (left : StopReason) (processor at : ℕ) (run : Option ℕ) (s : Figures) (st : Start)
-    → start_at left processor at run s ≡ Some st
-    → st.waited ≡ st.at - (task_in_figures (figures_switched left processor at run s) st.task).since
-starts-waited left processor at run s st e =
-    starts-waited_if (is_run_by (processor_in_figures s processor).running run) left processor at run s st e
+starts-waited : (reason : StopReason) (processor at : ℕ) (run : Option ℕ) (s : Figures) (st : Start)
+    → start_at reason processor at run s ≡ Some st
+    → st.waited ≡ st.at - (task_in_figures (figures_switched reason processor at run s) st.task).since
+starts-waited reason processor at run s st e =
+    starts-waited_if (is_run_by (processor_in_figures s processor).running run) reason processor at run s st e
 
 -- a pull says how long its task has waited
 pull-waited : (from processor at : ℕ) (task : Option ℕ) (s : Figures) (p : PulledTask)
@@ -338,22 +338,22 @@ placed-reports processor now d id to s j c inside p st =
           ∙ ap (λ o. saturating_sum (task_in_figures s j).waited (0 + wait_of_start j o)) st);
     }
 
-switch-reports : (left : StopReason) (processor at : ℕ) (run : Option ℕ) (s t : Figures) (j : ℕ) (c : Change)
+switch-reports : (reason : StopReason) (processor at : ℕ) (run : Option ℕ) (s t : Figures) (j : ℕ) (c : Change)
     → j < length s.tasks → KeepsWaits s t → (processor_in_figures t processor).running ≡ (processor_in_figures s processor).running
-    → c.pull ≡ None → c.start ≡ start_at left processor at run t
-    → ReportsWaited s (figures_switched left processor at run t) j
-    (then_if (if_preempted left (gives_way j (running_task (processor_in_figures s processor)) run)) at) c
-switch-reports left processor at run s t j c inside k r p st =
+    → c.pull ≡ None → c.start ≡ start_at reason processor at run t
+    → ReportsWaited s (figures_switched reason processor at run t) j
+    (then_if (if_preempted reason (gives_way j (running_task (processor_in_figures s processor)) run)) at) c
+switch-reports reason processor at run s t j c inside k r p st =
     let inside' : j < length t.tasks = omega (arith, k.tasks) in
     record {
-      since = since-switched left processor at run t j inside'
-          ∙ ap (λ n. cond (if_preempted left (gives_way j (running_task (processor_in_figures t processor)) run)) at n) (k.since j)
-          ∙ ap (λ o. cond (if_preempted left (gives_way j (option_map (λ (x : Start). x.task) o) run)) at (task_in_figures s j).since) r
-          ∙ then-is (if_preempted left (gives_way j (running_task (processor_in_figures s processor)) run)) at (task_in_figures s j).since;
+      since = since-switched reason processor at run t j inside'
+          ∙ ap (λ n. cond (if_preempted reason (gives_way j (running_task (processor_in_figures t processor)) run)) at n) (k.since j)
+          ∙ ap (λ o. cond (if_preempted reason (gives_way j (option_map (λ (x : Start). x.task) o) run)) at (task_in_figures s j).since) r
+          ∙ then-is (if_preempted reason (gives_way j (running_task (processor_in_figures s processor)) run)) at (task_in_figures s j).since;
       waited = λ h.
-          waited-switched left processor at run t j inside' (omega (arith, k.waited j))
-          ∙ ap (λ n. saturating_sum n (wait_of_start j (start_at left processor at run t))) (k.waited j)
-          ∙ ap (saturating_sum (task_in_figures s j).waited) (sym (zero-add (wait_of_start j (start_at left processor at run t))))
+          waited-switched reason processor at run t j inside' (omega (arith, k.waited j))
+          ∙ ap (λ n. saturating_sum n (wait_of_start j (start_at reason processor at run t))) (k.waited j)
+          ∙ ap (saturating_sum (task_in_figures s j).waited) (sym (zero-add (wait_of_start j (start_at reason processor at run t))))
           ∙ sym (ap (λ o. saturating_sum (task_in_figures s j).waited (wait_of_pull j o + wait_of_start j c.start)) p
           ∙ ap (λ o. saturating_sum (task_in_figures s j).waited (0 + wait_of_start j o)) st);
     }

@@ -78,8 +78,8 @@ kept-taken processor now None s = same s
 kept-taken processor now (Some id) s =
     both s (waited_there id now s) _ (with_one s id _ refl) (kept-comes id processor now (waited_there id now s))
 
-kept-stopped : (left : StopReason) (now : ℕ) (running : Option Start) (s : Figures) → KeepsWakes s (stopped left now running s)
-kept-stopped left now None s = same s
+kept-stopped : (reason : StopReason) (now : ℕ) (running : Option Start) (s : Figures) → KeepsWakes s (stopped reason now running s)
+kept-stopped reason now None s = same s
 kept-stopped Blocked now (Some old) s = same s
 kept-stopped Preempted now (Some old) s = with_one s old.task _ refl
 
@@ -149,23 +149,23 @@ begins-old j (Some start) (Some id) e =
     old_at j start.task id (eqb id j) (eqb start.task j) (eqb_tells id j) (eqb_tells start.task j) (eqb-true start.task id e)
 
 -- a switch ends the wait of the wake whose task begins to run, and of no other, by whether another runs:
-woken-switched_if : (b : Bool) (left : StopReason) (processor now : ℕ) (run : Option ℕ) (s : Figures) (j : ℕ)
+woken-switched_if : (b : Bool) (reason : StopReason) (processor now : ℕ) (run : Option ℕ) (s : Figures) (j : ℕ)
     → is_run_by (processor_in_figures s processor).running run ≡ b → j < length s.tasks
-    → (task_in_figures (cond b s (started processor now run (stopped left now (processor_in_figures s processor).running s))) j).woken
+    → (task_in_figures (cond b s (started processor now run (stopped reason now (processor_in_figures s processor).running s))) j).woken
     ≡ cond (begins_as j (running_task (processor_in_figures s processor)) (Some run)) None (task_in_figures s j).woken
-woken-switched_if true left processor now run s j e inside = rw (begins-old j (processor_in_figures s processor).running run e) refl
-woken-switched_if false left processor now run s j e inside =
-    let t = stopped left now (processor_in_figures s processor).running s in
-    let k = kept-stopped left now (processor_in_figures s processor).running s in
+woken-switched_if true reason processor now run s j e inside = rw (begins-old j (processor_in_figures s processor).running run e) refl
+woken-switched_if false reason processor now run s j e inside =
+    let t = stopped reason now (processor_in_figures s processor).running s in
+    let k = kept-stopped reason now (processor_in_figures s processor).running s in
     woken-begun_if processor now run t j (omega (arith, k.tasks)) ∙ ap (λ o. cond (is_this j run) None o) (k.at j)
     ∙ ap (λ b. cond b None (task_in_figures s j).woken) (sym (begins-new j (processor_in_figures s processor).running run e))
 
-woken-switched : (left : StopReason) (processor now : ℕ) (run : Option ℕ) (s : Figures) (j : ℕ)
+woken-switched : (reason : StopReason) (processor now : ℕ) (run : Option ℕ) (s : Figures) (j : ℕ)
     → j < length s.tasks
-    → (task_in_figures (figures_switched left processor now run s) j).woken
+    → (task_in_figures (figures_switched reason processor now run s) j).woken
     ≡ cond (begins_as j (running_task (processor_in_figures s processor)) (Some run)) None (task_in_figures s j).woken
-woken-switched left processor now run s j inside =
-    woken-switched_if (is_run_by (processor_in_figures s processor).running run) left processor now run s j refl inside
+woken-switched reason processor now run s j inside =
+    woken-switched_if (is_run_by (processor_in_figures s processor).running run) reason processor now run s j refl inside
 
 -- what becomes of the wake that a task has waited for
 abbrev pub wake_seen : ℕ → Figures → Event → Result Reply Refusal → Option ℕ
@@ -201,12 +201,12 @@ placed-awaits processor now d id to s j inside =
     ∙ awaits-placed (eqb id j) at (task_in_figures s j).woken
 
 -- after moves that keep wakes and who runs
-switched-awaits : (left : StopReason) (processor now : ℕ) (run : Option ℕ) (s t : Figures) (j : ℕ)
+switched-awaits : (reason : StopReason) (processor now : ℕ) (run : Option ℕ) (s t : Figures) (j : ℕ)
     → j < length s.tasks → KeepsWakes s t → (processor_in_figures t processor).running ≡ (processor_in_figures s processor).running
-    → (task_in_figures (figures_switched left processor now run t) j).woken
+    → (task_in_figures (figures_switched reason processor now run t) j).woken
     ≡ cond (begins_as j (running_task (processor_in_figures s processor)) (Some run)) None (task_in_figures s j).woken
-switched-awaits left processor now run s t j inside k r =
-    woken-switched left processor now run t j (omega (arith, k.tasks))
+switched-awaits reason processor now run s t j inside k r =
+    woken-switched reason processor now run t j (omega (arith, k.tasks))
     ∙ ap (λ o. cond (begins_as j (option_map (λ (x : Start). x.task) o) (Some run)) None (task_in_figures t j).woken) r
     ∙ ap (λ o. cond (begins_as j (running_task (processor_in_figures s processor)) (Some run)) None o) (k.at j)
 
@@ -356,25 +356,25 @@ starts_by s u processor now (Some id) start k new e =
       late = ap (option_map (λ (woken : ℕ). time_at processor now s - woken)) (k.at id);
     })
 
-starts_if : (b : Bool) (left : StopReason) (s t : Figures) (processor now : ℕ) (run : Option ℕ) (start : Start)
+starts_if : (b : Bool) (reason : StopReason) (s t : Figures) (processor now : ℕ) (run : Option ℕ) (start : Start)
     → KeepsWakes s t → (processor_in_figures t processor).running ≡ (processor_in_figures s processor).running
     → is_run_by (processor_in_figures t processor).running run ≡ b
     → cond b None
-    (starts_as processor (time_at processor now s) run (stopped left (time_at processor now s) (processor_in_figures t processor).running t))
+    (starts_as processor (time_at processor now s) run (stopped reason (time_at processor now s) (processor_in_figures t processor).running t))
     ≡ Some start
     → Starts s processor now run start
-starts_if true left s t processor now run start k r is e = cc
-starts_if false left s t processor now run start k r is e =
-    let u = stopped left (time_at processor now s) (processor_in_figures t processor).running t in
-    starts_by s u processor now run start (both s t u k (kept-stopped left (time_at processor now s) (processor_in_figures t processor).running t))
+starts_if true reason s t processor now run start k r is e = cc
+starts_if false reason s t processor now run start k r is e =
+    let u = stopped reason (time_at processor now s) (processor_in_figures t processor).running t in
+    starts_by s u processor now run start (both s t u k (kept-stopped reason (time_at processor now s) (processor_in_figures t processor).running t))
     (ap (λ o. is_run_by o run) (sym r) ∙ is) e
 
-starts : (left : StopReason) (s t : Figures) (processor now : ℕ) (run : Option ℕ) (start : Start)
+starts : (reason : StopReason) (s t : Figures) (processor now : ℕ) (run : Option ℕ) (start : Start)
     → KeepsWakes s t → (processor_in_figures t processor).running ≡ (processor_in_figures s processor).running
-    → start_at left processor (time_at processor now s) run t ≡ Some start
+    → start_at reason processor (time_at processor now s) run t ≡ Some start
     → Starts s processor now run start
-starts left s t processor now run start k r e =
-    starts_if (is_run_by (processor_in_figures t processor).running run) left s t processor now run start k r refl e
+starts reason s t processor now run start k r e =
+    starts_if (is_run_by (processor_in_figures t processor).running run) reason s t processor now run start k r refl e
 
 -- what is reported of a start, by what the answer shows
 abbrev pub StartsAs : Figures → Option Sight → Start → Type 0

@@ -58,7 +58,7 @@ task_preempted t now = record t { since = now; preemptions = saturating_sum t.pr
 
 -- the task that ran stops, if there was one: it waits from now on if it was preempted
 abbrev pub stopped : StopReason → ℕ → Option Start → Figures → Figures
-stopped left now None s = s
+stopped reason now None s = s
 stopped Blocked now (Some start) s = s
 stopped Preempted now (Some start) s = figures_with_task s start.task (task_preempted (task_in_figures s start.task) now)
 
@@ -86,22 +86,22 @@ started processor now run s = figures_with_processor (begun_if processor now run
 
 -- from now on this task runs at a processor, or none does; if it is the one that ran before, nothing changes
 abbrev pub figures_switched : StopReason → ℕ → ℕ → Option ℕ → Figures → Figures
-figures_switched left processor now run s =
+figures_switched reason processor now run s =
     let p = processor_in_figures s processor in
-    if is_run_by p.running run then s else started processor now run (stopped left now p.running s)
+    if is_run_by p.running run then s else started processor now run (stopped reason now p.running s)
 
 -- the stop of the task that ran, if there was one
 abbrev pub stop_of : StopReason → ℕ → Option Start → Option Stop
-stop_of left now running = option_map (λ (start : Start). record { start = start; at = now; reason = left }) running
+stop_of reason now running = option_map (λ (start : Start). record { start = start; at = now; reason = reason }) running
 
 -- the stop that a change of the running task reports, if the task changes
 abbrev pub stop_at : StopReason → ℕ → ℕ → Option ℕ → Figures → Option Stop
-stop_at left processor now run s =
+stop_at reason processor now run s =
     let p = processor_in_figures s processor in
-    if is_run_by p.running run then None else stop_of left now p.running
+    if is_run_by p.running run then None else stop_of reason now p.running
 
 -- the start that a change of the running task reports, if the task changes
 abbrev pub start_at : StopReason → ℕ → ℕ → Option ℕ → Figures → Option Start
-start_at left processor now run s =
+start_at reason processor now run s =
     let p = processor_in_figures s processor in
-    if is_run_by p.running run then None else starts_as processor now run (stopped left now p.running s)
+    if is_run_by p.running run then None else starts_as processor now run (stopped reason now p.running s)
