@@ -71,8 +71,9 @@ impl Bounds {
         ensures watches { self.new.watches.items ≡ source_disturbed self.old.discipline event.now reply.now self.old.watches.items }
         ensures lags { self.new.lags ≡ self.old.lags }
     {
-        if self.discipline != DisciplineName::Eevdf {
-            return;
+        match self.discipline {
+            DisciplineName::Cfs => return,
+            DisciplineName::Eevdf => {}
         }
         if let (
             Event::Pull {

@@ -107,11 +107,14 @@ fn write_row(
     let weight = row.weight;
     let v = format!(in alloc; "{}", VirtualTime(row.v))?;
     write!(text, "    {sign} {who:<14.14}{weight:>8} {v:>10}")?;
-    if let DisciplineName::Eevdf = discipline {
-        let deadline = format!(in alloc; "{}", VirtualTime(row.deadline))?;
-        let lag = format!(in alloc; "{}", LagText(row))?;
-        let eligible = eligibility(row);
-        write!(text, " {deadline:>10} {lag:>10}  {eligible}")?;
+    match discipline {
+        DisciplineName::Cfs => {}
+        DisciplineName::Eevdf => {
+            let deadline = format!(in alloc; "{}", VirtualTime(row.deadline))?;
+            let lag = format!(in alloc; "{}", LagText(row))?;
+            let eligible = eligibility(row);
+            write!(text, " {deadline:>10} {lag:>10}  {eligible}")?;
+        }
     }
     text.push_str("\n")
 }
