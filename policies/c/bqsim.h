@@ -110,7 +110,7 @@ BQ_HELPER(u64, bq_processor, 8, void);
 BQ_HELPER(u64, bq_counter_add, 100, u64 counter, u64 amount);
 BQ_HELPER(u64, bq_counter_read, 101, u64 counter);
 
-/* Keeps the compiler from forgetting that a value was tested: write it between the test and the use. */
+/* Keeps the compiler from forgetting that a value was tested: write it before the test. */
 #define bq_keep(value) __asm__ volatile("" : "+r"(value))
 
 #define BQ_INLINE static inline __attribute__((always_inline))

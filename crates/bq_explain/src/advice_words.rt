@@ -54,8 +54,8 @@ pub fn advice_text(
         Advice::FewerCalls => String::from_str(
             alloc,
             with_most_calls!(
-                "take calls out, from the ",
-                " on a path on: each path may have ",
+                "remove the ",
+                " call and those after it on a path: each path may have ",
                 ", and one call may add what several did"
             ),
         ),
@@ -285,7 +285,7 @@ fn reach_text(reach: Reach) -> &'static str {
 fn value_text(alloc: Global, bytes: u16) -> Result<String, AllocError> {
     let far = u32::from(bytes) + 8;
     format!(in alloc;
-        "write the whole value, {bytes} bytes from r10 - {far} up, 8 by each stdw, and point r3 to its begin: mov64 r3, r10, add64 r3, -{far}"
+        "write the whole value, {bytes} bytes from r10 - {far} up, 8 by each stdw, and point r3 to its first byte: mov64 r3, r10, add64 r3, -{far}"
     )
 }
 
@@ -298,7 +298,7 @@ fn argument_words(argument: Argument) -> &'static str {
         Argument::Entry => {
             "store the entry's number and point r2 to it: stw [r10-4], 0, mov64 r2, r10, add64 r2, -4"
         }
-        Argument::Value => "write a whole value to the stack, and point r3 to its begin",
+        Argument::Value => "write a whole value to the stack, and point r3 to its first byte",
         Argument::Zero => "mov64 r4, 0 before the call",
         Argument::Counter => with_counters!(
             "put a counter's number, ",
