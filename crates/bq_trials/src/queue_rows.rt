@@ -167,11 +167,11 @@ static WAKES_UNDER_EEVDF: [Wake; 3] = [
     (335, 3_000_000, -10_000_000, 4285797147, 4294967296),
 ];
 
-/// A woken task is at most one slice behind the mark of a queue that is empty. CFS has no deadlines.
+/// A woken task is at most 3,000,000 behind the mark of a queue that is empty, whatever its slice. CFS has no deadlines.
 static WAKES_UNDER_CFS: [Wake; 3] = [
     (1024, 3_000_000, 250_000, 4295217296, 0),
     (1024, 3_000_000, -3_000_000, 4291967296, 0),
-    (1024, 3_000_000, -3_000_001, 4291967296, 0),
+    (1024, 100_000, -3_000_001, 4291967296, 0),
 ];
 
 /// The tasks of some rows wake so.

@@ -23,17 +23,6 @@ fn each_nice_value_has_its_weight(rt: HostRuntime) {
     }
 }
 
-/// One step of nice is about a tenth of the processor between two tasks: each weight is about 1.25 times the next.
-#[test]
-fn a_step_of_nice_is_a_quarter(rt: HostRuntime) {
-    for place in 0..39u8 {
-        let nice = place as i8 - 20;
-        let more = 100 * weight(nice);
-        let less = weight(nice + 1);
-        is_true(&rt, 119 * less <= more && more <= 128 * less);
-    }
-}
-
 /// Time t at weight w is t * 1024 / w of virtual time, rounded down: 10240000000 / 335, 3072000000 / 335, and t itself at 1024.
 #[test]
 fn virtual_time_passes_by_weight(rt: HostRuntime) {
