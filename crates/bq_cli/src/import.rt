@@ -75,7 +75,7 @@ pub(crate) fn do_import(rt: &HostRuntime, words: &PolicyWords) -> Result<ExitCod
     }
 }
 
-/// What is said of an input that is no object file, and too short, too long or no multiple of eight bytes.
+/// The message on an input that is no object file, and too short, too long or no multiple of eight bytes.
 const NO_SECTION: &str = with_program_bytes!(
     "neither an object file nor a text section, which has ",
     " bytes, a multiple of 8"

@@ -69,7 +69,7 @@ impl Search {
         Ok(())
     }
 
-    /// One slot later: a slot to which control may go is begun, or the last one that was begun is put in place.
+    /// Does one step of the search: begins a slot that the last begun slot goes on to, or puts the last begun slot in place.
     fn advance(&mut self, old: &[Option<Insn>], maps: usize, slot: usize) -> Result<(), Disorder>
         requires linked { IsLinked old.now }
         requires few { maps ≤ MAPS }
