@@ -315,6 +315,7 @@ fn line_at(bytes: &[u8], number: usize) -> Option<&str> {
     text.lines().nth(number.checked_sub(1)?)
 }
 
+/// What is wrong with a line that begins with `;@`, for this cause, and what such a line may say.
 fn head_words(cause: HeadCause) -> &'static str {
     match cause {
         HeadCause::Unknown => {

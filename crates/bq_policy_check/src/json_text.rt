@@ -100,7 +100,7 @@ fn first_line(text: &str) -> (&str, &str)
     text.split_once('\n').unwrap_or((text, ""))
 }
 
-/// What explains a verdict, beside its prose.
+/// Makes the fields of a JSON object that explain a verdict beside the prose.
 fn fields_of(
     alloc: Global,
     policy: &PolicySource,
