@@ -22,7 +22,7 @@ ComplainsOf text (Some reported) = ¬ (IsAssembly text)
 abbrev pub line_words : ℕ → List ℕ
 line_words line = if line == 0 then codes "the text has no instruction" else codes "line " ++ (decimal line ++ codes ": ")
 
--- what is said of a text begins with the line of its fault
+-- the complaint of a text begins with the line of its fault
 pub record NamesLine (text reported : List ℕ) : Type 0 where
   pub line : ℕ
   pub cause : AssemblyCause

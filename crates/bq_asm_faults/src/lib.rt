@@ -1,5 +1,6 @@
 //! What is wrong with a text that the assembler refuses, in words: the line at fault, the slip, and what to write instead.
 //! There is a complaint of exactly the texts that do not assemble. A text that is written for another command is called so.
+//! The line at fault is promised; the wording of a complaint is only tested.
 #![tactic(auto)]
 
 mod complaining;

@@ -48,6 +48,7 @@ pub fn with_nul_shown(alloc: Global, text: &str) -> Result<String, AllocError> {
     Ok(shown)
 }
 
+/// The line up to its first `;`, where a comment begins.
 fn without_comment(line: &str) -> &str {
     match line.split_once(';') {
         Some((written, _)) => written,

@@ -54,31 +54,31 @@ fn kind_of(mnemonic: Mnemonic, place: usize) -> NumberKind {
 /// What is wrong with a number.
 #[derive(Clone, Copy)]
 enum Slip {
-    /// It is written with a unit, and has this many nanoseconds.
+    /// The number is written with a unit, and has this many nanoseconds.
     Time(u64),
-    /// It is written with a unit, and has this many nanoseconds, which do not fit 32 bits.
+    /// The number is written with a unit, and has this many nanoseconds, which do not fit 32 bits.
     LongTime(u64),
-    /// It is no number, or does not fit 64 bits.
+    /// The word is no number, or does not fit 64 bits.
     NoNumber,
-    /// It does not fit 32 bits.
+    /// The number does not fit 32 bits.
     Long,
-    /// It does not fit 32 bits, and is the number that means no task or processor in contexts and answers.
+    /// The number does not fit 32 bits, and is the number that means no task or processor in contexts and answers.
     Nobody,
-    /// It is below 0 and does not fit 32 bits; in 64 bits it is this word.
+    /// The number is below 0 and does not fit 32 bits; in 64 bits it is this word.
     LongBelowZero(u64),
-    /// It numbers a helper or a map, and does not fit 32 bits.
+    /// The number is that of a helper or a map, and does not fit 32 bits.
     NoName,
-    /// It has a `+`, which is not taken here.
+    /// The number has a `+`, which is not taken here.
     Plus,
-    /// It is a distance without a sign.
+    /// The number is a distance without a sign.
     NoSign,
-    /// It is a distance that does not fit 16 bits.
+    /// The number is a distance that does not fit 16 bits.
     TooFar,
-    /// It is a distance that does not fit 32 bits.
+    /// The number is a distance that does not fit 32 bits.
     MuchTooFar,
-    /// It is an offset in brackets that is no offset, or does not fit 16 bits.
+    /// The word is an offset in brackets that is no offset, or does not fit 16 bits.
     Offset,
-    /// It has a sign, which is not taken here.
+    /// The number has a sign, which is not taken here.
     Signed,
 }
 

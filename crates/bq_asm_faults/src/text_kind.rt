@@ -14,7 +14,7 @@ pub enum TextKind {
     Workload,
     /// A trace.
     Trace,
-    /// None of these begins so.
+    /// A text that begins as none of the other kinds does.
     Other,
 }
 

@@ -116,15 +116,15 @@ fn report_how_explained(rt: &HostRuntime, words: &CheckWords) {
     }
 }
 
-/// What is said of `--image` with several files.
+/// The message on `--image` with several files.
 const NO_IMAGE: &str =
     "--image names the file for the image of one policy: check one file at a time";
 
-/// What is said of `--image -`.
+/// The message on `--image -`.
 const NO_FILE: &str =
     "the image goes to a file, since standard output has the answer; bqsim asm writes the hex of an image";
 
-/// What is said of `--image` if it names the policy's own file.
+/// The message on an `--image` that names the policy's own file.
 const OWN_FILE: &str =
     "--image names the policy's own file, which the image would replace: name another file";
 
@@ -164,7 +164,7 @@ fn is_among(word: &str, others: &[String]) -> bool
     others.iter().any(|other| other.as_str() == word)
 }
 
-/// Checks the policy in the file of that name, or on standard input, and answers its exit status.
+/// Checks the policy in the file of that name, or on standard input, and returns the exit status of the answer.
 fn check_one(rt: &HostRuntime, words: &CheckWords, name: Option<&str>, most: u64) -> u8 {
     let bytes = match read_input(rt, name, most) {
         Ok(bytes) => bytes,
@@ -179,7 +179,7 @@ fn check_one(rt: &HostRuntime, words: &CheckWords, name: Option<&str>, most: u64
     answer_of(rt, words, name, &answer)
 }
 
-/// Writes the answer to a file, and answers its exit status.
+/// Writes to standard output what `check` answers to a file, and returns the exit status of the answer.
 fn answer_of(
     rt: &HostRuntime,
     words: &CheckWords,
@@ -233,7 +233,7 @@ fn write_image(
     }
 }
 
-/// The exit status if a call on a file failed; as JSON it writes a line.
+/// Returns the exit status after a call on a file failed; if the answers are JSON, writes a line on the file.
 fn failed(
     rt: &HostRuntime,
     words: &CheckWords,
@@ -257,7 +257,7 @@ fn failed(
     }
 }
 
-/// Writes, as JSON, the line on a file to which no answer comes, and answers the exit status.
+/// Writes the line on a file that gets no answer to standard output, if the answers are JSON, and returns the exit status.
 fn unanswered(
     rt: &HostRuntime,
     words: &CheckWords,
@@ -277,7 +277,7 @@ fn unanswered(
     }
 }
 
-/// Writes an answer, in prose after the file's name if there are several files, and answers the exit status.
+/// Writes an answer to standard output, in prose after the file's name if there are several files, and returns the exit status.
 fn report_answer(
     rt: &HostRuntime,
     words: &CheckWords,

@@ -22,7 +22,7 @@ use std::process::ExitCode;
 use std::sync::Wait;
 use std::thread::Threads;
 
-/// What is said of an empty trace.
+/// The message on an empty trace.
 const EMPTY: &str = with_first_line!("bqsim: the trace is empty: ", "");
 
 /// Does what the words after the program's name ask: a command on the files that they name, or on standard input, to standard output. A
@@ -72,14 +72,14 @@ fn do_job<T: Threads + Wait + Sync>(
     }
 }
 
-/// What is said if `check` refused hex.
+/// The message after `check` refused hex.
 const CHECK_READS_HEX: &str =
     "without a file this reads hex; bqsim check --explain - reads a policy in any form";
 
-/// What is said if `dis` refused hex.
+/// The message after `dis` refused hex.
 const DIS_READS_HEX: &str = "without a file this reads hex; bqsim dis - reads a policy in any form";
 
-/// What is said if `replay` found a bad line.
+/// The message after `replay` found a bad line.
 const REPLAY_SAYS_NOT_WHY: &str = "a line is bad; bqsim timeline says why";
 
 /// Performs a command on what is read from the file of that name, or from standard input.

@@ -6,8 +6,8 @@ ghost use Rattle.bq_cli.specs.Words.{ArePolicyWords};
 ghost use Rattle.bq_cli.specs.Importing.{AskToImport};
 
 use crate::policy_words::{most_bytes, policy_words};
-use bq_bpf::with_program_bytes;
 use bq_asm_faults::{TextKind, kind_of_text};
+use bq_bpf::with_program_bytes;
 use bq_console::status::BAD_INPUT;
 use bq_console::{
     Lines, Name, WordsFault, name_of, refused_words, report_out_of_memory, whole_input, written,
@@ -75,7 +75,7 @@ pub(crate) fn do_import(rt: &HostRuntime, words: &PolicyWords) -> Result<ExitCod
     }
 }
 
-/// What is said of an input that is no object file, and too short, too long or no multiple of eight bytes.
+/// The message on an input that is no object file, and too short, too long or no multiple of eight bytes.
 const NO_SECTION: &str = with_program_bytes!(
     "neither an object file nor a text section, which has ",
     " bytes, a multiple of 8"

@@ -255,7 +255,7 @@ fn report_stopped(rt: &HostRuntime, fault: &RunFault, failure: Option<Error>) ->
     }
 }
 
-/// What is said of a comparison with one seed.
+/// The note on a comparison with one seed.
 const ONE_SEED: &str =
     "--against: the differences of one seed may be chance; --seeds 10 shows how much they vary";
 

@@ -418,6 +418,7 @@ pub fn program<'a>(alloc: Global) -> Result<Command<'a>, AllocError>
     with_other_commands(alloc, program)
 }
 
+/// Adds the commands on schedules to the program.
 fn with_schedule_commands<'a>(
     alloc: Global,
     program: Command<'a>,
@@ -427,12 +428,14 @@ fn with_schedule_commands<'a>(
     with_commands(alloc, program, &SCHEDULE_COMMANDS)
 }
 
+/// Adds the commands on policies to the program.
 fn with_policy_commands<'a>(alloc: Global, program: Command<'a>) -> Result<Command<'a>, AllocError>
     ensures { IfOk result (λ c. app_of c ≡ with_commands (app_of program.entry) policy_commands) }
 {
     with_commands(alloc, program, &POLICY_COMMANDS)
 }
 
+/// Adds the other commands to the program.
 fn with_other_commands<'a>(alloc: Global, program: Command<'a>) -> Result<Command<'a>, AllocError>
     ensures { IfOk result (λ c. app_of c ≡ with_commands (app_of program.entry) other_commands) }
 {

@@ -27,6 +27,7 @@ pub fn all_figures(alloc: Global, size: MachineSize) -> Result<Vec<Figure>, Allo
     Ok(figures)
 }
 
+/// The figures of a task, in the order of the report.
 fn task_figures(task: u16) -> [Figure; 12]
     ensures { result ≡ figures_of_task task }
 {
@@ -46,6 +47,7 @@ fn task_figures(task: u16) -> [Figure; 12]
     ]
 }
 
+/// The figures of a processor and of its hooks, in the order of the report.
 fn processor_figures(processor: u8) -> [Figure; 12]
     ensures { result ≡ figures_of_processor processor }
 {

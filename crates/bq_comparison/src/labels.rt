@@ -44,6 +44,7 @@ pub(crate) fn word(figure: Figure) -> &'static str {
     }
 }
 
+/// The word for a figure of a task.
 fn task_word(figure: TaskFigure) -> &'static str {
     match figure {
         TaskFigure::Ran => "cpu",
@@ -56,6 +57,7 @@ fn task_word(figure: TaskFigure) -> &'static str {
     }
 }
 
+/// The word for a figure of the latency of a task.
 fn latency_word(figure: LatencyFigure) -> &'static str {
     match figure {
         LatencyFigure::P50 => "p50",

@@ -1,9 +1,8 @@
 //! `simulate` with several seeds, or beside another choice of policies: the mean and the standard deviation of each figure of
 //! the report, and of its difference seed by seed, as a table, as comma-separated values or as JSON.
-//! Promises that both sides are summaries of as many runs as were asked for, that each line has the two rows of one figure and what
-//! the runs with the same seeds say of its difference, and that lines are left out only as asked, or if a hook has only zeros.
-//!
-//! The figures are of one run, in numbers; the seeds' runs are added up row by row. Builds on bq_experiment for the command's words.
+//! Promises that both sides are summaries of as many runs as were asked for, that each line has the two rows of one figure and the
+//! difference of the runs with the same seeds, and that lines are left out only as asked, or if a hook has only zeros.
+//! Builds on bq_experiment for the command's words, and on bq_simulate for the runs.
 #![tactic(auto)]
 
 mod all;

@@ -31,6 +31,7 @@ impl FigureLine {
         }
     }
 
+    /// Whether the means of all sides that there are are 0.
     fn is_zero(&self) -> bool
         ensures { result ≡ is_zero self.now }
     {

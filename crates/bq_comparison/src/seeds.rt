@@ -25,7 +25,7 @@ pub struct SeedsSummary {
     pub rows: Rows,
 }
 
-/// What comes of some runs.
+/// The figures of each of some runs, or the fault that ended the run.
 type Results = Vec<Result<RunFigures, SeedsFault>>;
 
 /// What is shared by runs that differ only in their seeds.

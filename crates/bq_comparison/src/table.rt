@@ -63,6 +63,7 @@ fn write_cells(alloc: Global, text: &mut String, line: &FigureLine) -> Result<()
     write_cell(alloc, text, is_time, difference_deviation_of(line.paired))
 }
 
+/// Writes a value in its unit as a cell, or `-` if there is no value.
 fn write_cell(
     alloc: Global,
     text: &mut String,
@@ -81,6 +82,7 @@ fn write_padded(text: &mut String, cell: &str) -> Result<(), AllocError> {
     write!(text, " {cell:>13}")
 }
 
+/// The difference in thousandths of the unit that it is shown in.
 fn shown_difference(is_time: bool, difference: Option<Difference>) -> Option<Difference> {
     match difference {
         Some(Difference::More(size)) => Some(Difference::More(in_unit(is_time, size))),

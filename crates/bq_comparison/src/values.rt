@@ -27,6 +27,7 @@ pub fn value_of(schedule: &Schedule, latencies: &mut WakeLatencies, figure: Figu
     }
 }
 
+/// The number of a figure of a task.
 fn task_value(schedule: &Schedule, task: u16, figure: TaskFigure) -> u64
     ensures { result ≡ task_value schedule.now task figure }
 {
@@ -42,6 +43,7 @@ fn task_value(schedule: &Schedule, task: u16, figure: TaskFigure) -> u64
     }
 }
 
+/// The number of a figure of a processor.
 fn processor_value(schedule: &Schedule, processor: u8, figure: ProcessorFigure) -> u64
     ensures { result ≡ processor_value schedule.now processor figure }
 {
@@ -53,6 +55,7 @@ fn processor_value(schedule: &Schedule, processor: u8, figure: ProcessorFigure) 
     }
 }
 
+/// The number of a figure of a hook at a processor.
 fn hook_value(schedule: &Schedule, processor: u8, hook: Hook, figure: HookFigure) -> u64
     ensures { result ≡ hook_value schedule.now processor hook figure }
 {

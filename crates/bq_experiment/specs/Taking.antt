@@ -59,7 +59,7 @@ pub record IsPolicyUnaccepted (Reads : PolicySource → Type 0) (named : LoadFau
   pub other : named ≢ load.OutOfMemory
 
 -- Why a file is not taken: its hook has an image already, it disagrees with what was asked for, its words are no policy, or its
--- program is not accepted. If memory runs out, nothing is said of the file.
+-- program is not accepted. If memory runs out, the file may be anything.
 abbrev pub IsAttachFault : (PolicySource → Type 0) → (FileFault → Type 0) → Standing → AttachFault → Type 0
 IsAttachFault Reads Refuses s attach.Twice = IsSecondForHook Reads s
 IsAttachFault Reads Refuses s attach.Hook = (key : Key) × Refuses (Disagrees key)

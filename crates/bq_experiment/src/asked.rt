@@ -22,7 +22,7 @@ use thiserror::Error;
 pub enum ShownAs {
     /// As a trace.
     Trace,
-    /// As `timeline` shows one.
+    /// As `timeline` shows a trace.
     Timeline(Settings),
 }
 

@@ -13,7 +13,7 @@ pub enum RunFault {
     /// A write failed.
     #[error("{write}", write = StreamFault::Write)]
     Write,
-    /// It has more events than it may have.
+    /// The run has more events than it may have.
     #[error("the run was cut off: it has more events than --max-events allows")]
     TooManyEvents,
 }

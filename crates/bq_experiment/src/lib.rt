@@ -1,10 +1,7 @@
-//! The command `simulate`: a workload, read from a text, is run, and shown as `timeline` shows a trace, or as a trace.
+//! The command `simulate`: a workload, read from a text, is run, and shown as a trace or as `timeline` shows one, as it comes.
 //! Promises that each policy is that of the image at its hook, that a trace has the line of each event of a simulation of that
-//! workload, and that a replay gets the same answers. A run that comes to its end has no more events than it may have, and one
-//! that is cut off has more.
-//!
-//! What is written goes to the output as it comes. Builds on bq_workload_file for the text, on bq_simulate for the loop, and on
-//! bq_timeline for the forms other than a trace.
+//! workload, that a replay gets the same answers, and that a run is cut off exactly if it has more events than it may have.
+//! Builds on bq_workload_file for the text, on bq_simulate for the loop, and on bq_timeline for the forms other than a trace.
 #![tactic(auto)]
 
 pub mod asked;

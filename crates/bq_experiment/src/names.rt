@@ -128,6 +128,7 @@ pub fn plain(alloc: Global, name: &str) -> Result<String, AllocError>
     Ok(text)
 }
 
+/// The letter, or `?` in its place if it is neither a visible letter of ASCII nor a blank.
 fn plain_letter(letter: char) -> char
     ensures ascii { result < 128 }
     ensures value { result ≡ plain_of letter }

@@ -41,7 +41,7 @@ pub struct RunStreams<'a, W, E> {
     pub progress: &'a ProgressLine<'a>,
 }
 
-/// What came of a run: the output, given back, and the last notes, or why the run has not come to its end.
+/// A run that is over: the output, given back, and the last notes, or why the run has not come to its end.
 #[derive(Drop)]
 pub struct FinishedRun<W> {
     pub output: Counted<W>,

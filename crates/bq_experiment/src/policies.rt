@@ -21,10 +21,10 @@ use thiserror::Error;
 /// Why a file is no policy for a hook.
 #[derive(Debug, Drop, Error)]
 pub enum AttachFault {
-    /// It is no policy: why, in words.
+    /// The file is no policy: why, in words.
     #[error("{0}")]
     File(String),
-    /// Its program is not accepted.
+    /// The program of the file is not accepted.
     #[error("refused {0}")]
     Program(LoadFault),
     #[error("the policy is for another hook")]

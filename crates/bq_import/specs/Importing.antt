@@ -78,7 +78,7 @@ pub record IsInDisorder (bytes : List ℕ) (disorder : Disorder) : Type 0 where
   pub plain : list_any is_address program ≡ false
   pub wrong : IsDisorder (spread program) disorder
 
--- why bytes are not imported; if memory runs out, nothing is said of them
+-- why bytes are not imported; if memory runs out, they may be any bytes
 abbrev pub IsImportFault : List ℕ → ImportFault → Type 0
 IsImportFault bytes (At slot reason) = IsNoProgram bytes slot reason ⊎ ((reason ≡ Address) × HasAddress bytes slot)
 IsImportFault bytes (Order OutOfMemory) = Unit {0}

@@ -69,7 +69,7 @@ impl Search {
         Ok(())
     }
 
-    /// One slot later: a slot to which control may go is begun, or the last one that was begun is put in place.
+    /// Does one step of the search: begins a slot that the last begun slot goes on to, or puts the last begun slot in place.
     fn advance(&mut self, old: &[Option<Insn>], maps: usize, slot: usize) -> Result<(), Disorder>
         requires linked { IsLinked old.now }
         requires few { maps ≤ MAPS }
@@ -175,6 +175,7 @@ impl Search {
         Ok(())
     }
 
+    /// Whether the slot is begun; a slot beyond the last is not.
     fn is_open(&self, slot: usize) -> bool
         ensures { result ≡ is_open self.now.opens.items slot }
     {
@@ -185,6 +186,7 @@ impl Search {
     }
 }
 
+/// As many places as asked for, none of them known.
 pub(crate) fn no_places(alloc: Global, count: usize) -> Result<Vec<Option<usize>>, AllocError>
     ensures blank { IfOk result (λ list. (k : ℕ) → slice_index_or list.items k None ≡ None) }
     ensures room { IfOk result (λ list. length list.items ≡ count) }
@@ -192,6 +194,7 @@ pub(crate) fn no_places(alloc: Global, count: usize) -> Result<Vec<Option<usize>
     vec![in alloc; None; count]
 }
 
+/// As many marks as asked for, none of them of a slot that is begun.
 pub(crate) fn none_open(alloc: Global, count: usize) -> Result<Vec<bool>, AllocError>
     ensures blank { IfOk result (λ list. (k : ℕ) → slice_index_or list.items k false ≡ false) }
     ensures room { IfOk result (λ list. length list.items ≡ count) }

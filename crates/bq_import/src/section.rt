@@ -53,7 +53,7 @@ impl From<Disorder> for ImportFault {
 
 /// The program that the bytes of a text section spell, beside this many maps, in an order in which every jump goes forward.
 ///
-/// It is a copy (see `order`) of what the bytes spell. An `lddw` of a number that a move could load is refused as an
+/// The program is a copy (see `order`) of what the bytes spell. An `lddw` of a number that a move could load is refused as an
 /// address: a compiler writes it only for what a linker fills in. What is refused has the fault that is named.
 pub fn import(alloc: Global, bytes: &[u8], maps: usize) -> Result<Ordered, ImportFault>
     requires few { maps ≤ MAPS }

@@ -34,7 +34,7 @@ pub enum ImportRefusal {
     /// All of the input is digits of hex and blanks, and the number of digits is odd.
     #[error("the hex has a half byte at its end")]
     Hex,
-    /// It is an object file that has no policy.
+    /// The input is an object file that has no policy.
     #[error("{0}")]
     Object(ObjectFault),
     /// The program is not imported.

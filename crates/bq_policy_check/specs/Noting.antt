@@ -1,4 +1,4 @@
--- What is said of the marks of a text that `asm` leaves.
+-- The notes on the marks of a text that `asm` leaves.
 use Rattle.std.specs.Prelude.{◌≡◌, ◌≢◌, ℕ, Bool, List, [], ◌++◌, ◌&&◌, ◌⊎◌, false, true, if◌then◌else◌, codes, is_some, length, nat_lt, not}
 use Rattle.bq_hooks.specs.declared.hook.Version.{Version}
 use Rattle.bq_hooks.specs.declared.hook.Version.TheVariants.{First, Second}

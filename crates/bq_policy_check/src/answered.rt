@@ -3,7 +3,7 @@
 /// What a command answers, with its line ends.
 #[derive(Drop)]
 pub enum Answered {
-    /// It did what was asked; the text is the result.
+    /// The command did what was asked; the text is the result.
     Done(String),
     /// The policy is refused; the text says why.
     Refused(String),

@@ -56,6 +56,7 @@ pub(crate) fn terms_of(alloc: Global, words: &CheckWords) -> Result<Terms, Words
     Ok(Terms { head, limits })
 }
 
+/// Answers `check` for the file of these bytes: the verdict on its policy, or why the file is no policy.
 fn check_file(
     alloc: Global,
     words: &CheckWords,

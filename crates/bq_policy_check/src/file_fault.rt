@@ -65,7 +65,7 @@ fn is_object(bytes: &[u8]) -> bool {
     bytes.starts_with(b"\x7fELF")
 }
 
-/// What is said of an object file.
+/// The reason why an object file is no policy.
 const OBJECT: &str =
     "the file is an ELF object file, and no policy: bqsim import makes a policy of it (docs/POLICIES_IN_C.md)";
 
@@ -145,7 +145,7 @@ fn place_text(alloc: Global, reason: &FileFault) -> Result<String, AllocError> {
     }
 }
 
-/// What is said of it as JSON, beside the prose.
+/// Makes the fields of a JSON object that say a reason: `line` and `need`.
 pub(crate) fn fields_of_reason(
     alloc: Global,
     reason: &FileFault,
@@ -156,7 +156,7 @@ pub(crate) fn fields_of_reason(
     Ok(fields)
 }
 
-/// What refuses the file, the fault by its text, and its slot.
+/// Adds stage, code and slot of the fault to the fields of a JSON object.
 pub(crate) fn put_fault(
     fields: &mut Map<String, Value>,
     alloc: Global,
@@ -315,6 +315,7 @@ fn line_at(bytes: &[u8], number: usize) -> Option<&str> {
     text.lines().nth(number.checked_sub(1)?)
 }
 
+/// What is wrong with a line that begins with `;@`, for this cause, and what such a line may say.
 fn head_words(cause: HeadCause) -> &'static str {
     match cause {
         HeadCause::Unknown => {

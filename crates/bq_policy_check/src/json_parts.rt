@@ -301,6 +301,7 @@ fn maps_value(alloc: Global, shapes: &[MapShape]) -> Result<Value, AllocError> {
     Ok(Value::Array(values))
 }
 
+/// The shape of a map as a JSON object: the size of a value, and the number of entries.
 fn map_value(alloc: Global, shape: &MapShape) -> Result<Value, AllocError> {
     let mut fields = Map::new(alloc);
     let size = Value::from(u64::from(shape.value_size));

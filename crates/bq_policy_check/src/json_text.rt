@@ -100,7 +100,7 @@ fn first_line(text: &str) -> (&str, &str)
     text.split_once('\n').unwrap_or((text, ""))
 }
 
-/// What explains a verdict, beside its prose.
+/// Makes the fields of a JSON object that explain a verdict beside the prose.
 fn fields_of(
     alloc: Global,
     policy: &PolicySource,
@@ -143,7 +143,7 @@ fn put_answer(
     put(fields, alloc, "answer", answer)
 }
 
-/// The object of these fields, on a line of its own.
+/// Writes the JSON object of these fields as one line, with its line end.
 fn line_of(alloc: Global, fields: Map<String, Value>) -> Result<String, AllocError>
     ensures { IfOk result (λ text. IsLineOf (object (members_view fields.entries)) (string_bytes text)) }
 {

@@ -2,7 +2,7 @@
 //! with the options of `asm`, by themselves and beside the marks of its text.
 //!
 //! A command's words come as text, its file as bytes, and its answer goes back as text. So what a command does is a function of
-//! both, with a contract: the verdict, the listing. `run` is in bq_policy_run.
+//! both, with a contract: the verdict, the listing. Why a file is no policy is said in words that are only tested.
 #![tactic(auto)]
 
 mod accepting;

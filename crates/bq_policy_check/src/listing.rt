@@ -24,6 +24,7 @@ pub fn list(alloc: Global, words: &DisWords, bytes: &[u8]) -> Result<Answered, A
     }
 }
 
+/// Answers `dis` for the file of these bytes: the listing of its policy, or why the file is no policy.
 fn list_file(
     alloc: Global,
     words: &DisWords,

@@ -18,7 +18,7 @@ pub struct PolicyWords {
 /// The words after `check`.
 #[derive(Drop)]
 pub struct CheckWords {
-    /// What is said of each policy; its file is the first of the files.
+    /// The words that describe each policy; the file in them is the first of the files.
     pub policy: PolicyWords,
     /// All files, in their order.
     pub files: Vec<String>,

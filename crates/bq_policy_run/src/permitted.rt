@@ -41,6 +41,7 @@ pub fn permission_of(hook: Hook, context: &[u8], r0: u64) -> Permission
     }
 }
 
+/// Judges an answer to `place`; nothing is permitted for a context that is too short to show the machine.
 fn place_permission(context: &[u8], r0: u64) -> Permission
     ensures { 36 ≤ length context.now → result ≡ place_permission context.now r0 }
 {
@@ -73,6 +74,7 @@ pub fn place_shown(context: &[u8]) -> (u32, u64)
     )
 }
 
+/// Judges an answer to `preempt`: 0 and 1 are permitted.
 fn preempt_permission(r0: u64) -> Permission
     ensures { result ≡ preempt_permission r0 }
 {
@@ -83,6 +85,7 @@ fn preempt_permission(r0: u64) -> Permission
     }
 }
 
+/// Judges an answer to `pull`: nobody and each task that the context shows are permitted; another task may be hidden.
 fn pull_permission(context: &[u8], r0: u64) -> Permission
     ensures { 160 ≤ length context.now → result ≡ pull_permission context.now r0 }
 {

@@ -38,6 +38,7 @@ pub fn run<C: Clock>(
     }
 }
 
+/// Answers `run` for the file of these bytes: the runs of its policy, or why the file is no policy.
 fn run_file<C: Clock>(
     alloc: Global,
     clock: &C,
@@ -56,6 +57,7 @@ fn run_file<C: Clock>(
     }
 }
 
+/// Verifies a policy and runs it; a refused policy is not run, and the answer is why it is refused.
 fn run_policy<C: Clock>(
     alloc: Global,
     clock: &C,

@@ -57,6 +57,7 @@ impl Inputs {
         Ok(())
     }
 
+    /// Sets the field that one part of a text names, as `task=3` does.
     fn set_field(
         &mut self,
         alloc: Global,

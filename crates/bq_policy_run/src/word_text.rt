@@ -73,6 +73,7 @@ fn count_advice(count: u32) -> &'static str {
     }
 }
 
+/// Says whether an answer to `preempt` is permitted, and what the permitted answers mean.
 fn preempt_text(word: Permission) -> &'static str
     ensures { word ≢ NotShown → BeginsWithWord word result.now }
 {
