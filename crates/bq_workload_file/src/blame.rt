@@ -3,7 +3,7 @@ ghost use Rattle.std.specs.Prelude.{◌≡◌, option_and_then};
 ghost use Rattle.std.specs.Result.{result_err, result_ok};
 ghost use Rattle.bq_workload_file.specs.Keys.{unknown_key, unknown_there};
 
-use crate::why::Why;
+use crate::workload_cause::WorkloadCause;
 use std::alloc::{AllocError, AllocFailed};
 use std::fmt;
 
@@ -63,7 +63,7 @@ pub(crate) enum Trouble<'a> {
     /// Something is wrong in it.
     At {
         place: DocumentLocation<'a>,
-        why: Why<'a>,
+        why: WorkloadCause<'a>,
     },
     OutOfMemory,
 }
@@ -94,7 +94,10 @@ impl<'a> DocumentLocation<'a> {
     }
 
     /// What was read here, or what is wrong here.
-    pub(crate) fn locate<T: Drop>(self, read: Result<T, Why<'a>>) -> Result<T, Trouble<'a>>
+    pub(crate) fn locate<T: Drop>(
+        self,
+        read: Result<T, WorkloadCause<'a>>,
+    ) -> Result<T, Trouble<'a>>
         ensures read { result_ok result ≡ result_ok read.entry }
         ensures unknown { option_and_then unknown_there (result_err result) ≡ option_and_then unknown_key (result_err read.entry) }
     {

@@ -8,7 +8,7 @@ ghost use Rattle.bq_workload_file.specs.Workloads.{IsWorkloadFault};
 
 use crate::blame::DocumentLocation;
 use crate::near::{meant_word, nearest_name};
-use crate::why::Why;
+use crate::workload_cause::WorkloadCause;
 use std::alloc::{AllocError, Global};
 use std::fmt::Write;
 use thiserror::Error;
@@ -95,20 +95,20 @@ fn is_char_start(byte: u8) -> bool
 pub(crate) fn meaning(
     alloc: Global,
     place: &DocumentLocation<'_>,
-    why: &Why<'_>,
+    why: &WorkloadCause<'_>,
 ) -> Result<WorkloadFault, AllocError>
     ensures { IfOk result (λ fault. (text : List ℕ) → IsSome (parse_document text) → IsWorkloadFault text fault) }
 {
     let mut text = String::new(alloc);
     write!(text, "{place}{why}")?;
     let near = match why {
-        Why::UnknownKey { key, known } => meant_word(alloc, key, known)?,
-        Why::UnknownTask { name, names } => nearest_name(alloc, name, names)?,
+        WorkloadCause::UnknownKey { key, known } => meant_word(alloc, key, known)?,
+        WorkloadCause::UnknownTask { name, names } => nearest_name(alloc, name, names)?,
         _ => None,
     };
     match (near, why) {
         (Some(near), _) => write!(text, ", did you mean {near:?}?")?,
-        (None, Why::UnknownKey { known, .. }) => add_keys(&mut text, known)?,
+        (None, WorkloadCause::UnknownKey { known, .. }) => add_keys(&mut text, known)?,
         (None, _) => {}
     }
     Ok(WorkloadFault::Meaning(text))

@@ -14,7 +14,7 @@ mod lengths;
 mod near;
 mod setup;
 mod tables;
-mod why;
+mod workload_cause;
 mod workloads;
 
 pub use changes::Changes;

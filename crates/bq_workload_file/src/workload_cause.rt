@@ -49,7 +49,7 @@ pub(crate) enum Wanted {
 
 /// What is wrong.
 #[derive(Clone, Copy)]
-pub(crate) enum Why<'a> {
+pub(crate) enum WorkloadCause<'a> {
     /// Such a table has no such key, but these.
     UnknownKey {
         key: &'a str,
@@ -93,30 +93,34 @@ pub(crate) enum Why<'a> {
     TooMany,
 }
 
-impl fmt::Display for Why<'_> {
+impl fmt::Display for WorkloadCause<'_> {
     fn fmt<W: fmt::Write>(&self, f: &mut fmt::Formatter<W>) -> fmt::Result {
         match self {
-            Why::UnknownKey { key, known: _ } => write!(f, "unknown key {}", Quoted(key)),
-            Why::Missing(key) => write!(f, "{key} is missing"),
-            Why::NoSuch { key, value, wanted } => {
+            WorkloadCause::UnknownKey { key, known: _ } => write!(f, "unknown key {}", Quoted(key)),
+            WorkloadCause::Missing(key) => write!(f, "{key} is missing"),
+            WorkloadCause::NoSuch { key, value, wanted } => {
                 write!(f, "{key}: ")?;
                 misfit(f, value, wanted)
             }
-            Why::NoItem { value, wanted } => misfit(f, value, wanted),
-            Why::UnknownTask { name, names: _ } => {
+            WorkloadCause::NoItem { value, wanted } => misfit(f, value, wanted),
+            WorkloadCause::UnknownTask { name, names: _ } => {
                 write!(f, "wake: no task has the name {}", Quoted(name))
             }
-            Why::LongName => write!(f, "name: it has more than {LONGEST_NAME} bytes"),
-            Why::TwoOfName { name, first } => {
+            WorkloadCause::LongName => write!(f, "name: it has more than {LONGEST_NAME} bytes"),
+            WorkloadCause::TwoOfName { name, first } => {
                 write!(
                     f,
                     "name: {} is the name of [[task]] {first} too",
                     Quoted(name)
                 )
             }
-            Why::TwoForms => f.write_str("do stands beside run or sleep, which are short for one"),
-            Why::NoTime => f.write_str("do: nothing in it takes time; let it run or sleep"),
-            Why::NoProcessor { value, processors } => {
+            WorkloadCause::TwoForms => f.write_str(
+                "do stands beside run or sleep, which are short for one",
+            ),
+            WorkloadCause::NoTime => f.write_str(
+                "do: nothing in it takes time; let it run or sleep",
+            ),
+            WorkloadCause::NoProcessor { value, processors } => {
                 write!(f, "cpus: ")?;
                 shown(f, value)?;
                 write!(
@@ -125,7 +129,7 @@ impl fmt::Display for Why<'_> {
                     processors.saturating_sub(1)
                 )
             }
-            Why::TooMany => write!(
+            WorkloadCause::TooMany => write!(
                 f,
                 "there are more than {TASKS} tasks in all; a machine has room for no more"
             ),
