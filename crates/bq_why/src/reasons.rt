@@ -30,7 +30,7 @@ pub enum Reason {
 }
 
 /// Why `run` runs, among the tasks that are there. `by` made the choice, and `was` ran before.
-pub fn why(
+pub fn reason(
     discipline: DisciplineName,
     by: By,
     was: Option<u16>,
