@@ -51,7 +51,7 @@ impl PullSight {
     }
 }
 
-/// What a pull of one processor from another sees. `None` if the machine lacks one of them.
+/// Finds what a pull of one processor from another sees. `None` if the machine lacks one of the two processors.
 pub(crate) fn sight_of(
     alloc: Global,
     machine: &AnyCore,
@@ -73,7 +73,7 @@ pub(crate) fn sight_of(
     Ok(Some(sight))
 }
 
-/// What a pull from one processor to another sees.
+/// Finds what a pull from one processor to another sees.
 pub fn sight<Q: RunQueue>(
     alloc: Global,
     puller: u8,

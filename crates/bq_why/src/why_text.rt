@@ -26,16 +26,16 @@ pub struct Occurrence<'a> {
     pub change: &'a Change,
 }
 
-/// The form `why`, for what is in its window.
+/// The form `why`, for the choices in its window.
 #[derive(Drop)]
 pub struct WhyForm {
     alloc: Global,
     window: Window,
-    /// The task that ran at the processor of the next event.
+    /// The task that ran before the next event, at the processor of this event.
     ran_before: Option<u16>,
     /// The line on which the last wake began.
     begun_at_line: Option<u64>,
-    /// What the next event sees, if it is a pull.
+    /// What the next event sees, if the event is a pull.
     pull_sight: Option<PullSight>,
 }
 

@@ -57,10 +57,10 @@ fn task<W: fmt::Write>(
     }
 }
 
-/// Why a document is no workload, with what it lends.
+/// Why a document is no workload. The value borrows from the document.
 #[derive(Clone, Copy)]
 pub(crate) enum Trouble<'a> {
-    /// Something is wrong in it.
+    /// Something is wrong in the document.
     At {
         place: DocumentLocation<'a>,
         why: WorkloadCause<'a>,
@@ -93,7 +93,7 @@ impl<'a> DocumentLocation<'a> {
         }
     }
 
-    /// What was read here, or what is wrong here.
+    /// Passes on what was read at this place, or adds this place to what is wrong.
     pub(crate) fn locate<T: Drop>(
         self,
         read: Result<T, WorkloadCause<'a>>,

@@ -13,7 +13,7 @@ use bq_workload::Action;
 use std::alloc::Global;
 use toml::{Table, Value};
 
-/// What a task does: its `do`, or `run` and `sleep`, which are short for one.
+/// Reads what a task does: its `do`, or `run` and `sleep`, which are short for a `do`.
 pub(crate) fn all_actions<'a>(
     alloc: Global,
     table: &'a Table,

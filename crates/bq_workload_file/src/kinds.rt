@@ -24,7 +24,7 @@ static TASK: [&str; 10] = [
     "name", "count", "nice", "cpus", "slice", "start", "loops", "run", "sleep", "do",
 ];
 
-/// What is said of the processors of a machine: their bits, and how many they are.
+/// The processors of a machine: their bits, and how many there are.
 #[derive(Clone, Copy)]
 pub(crate) struct Processors {
     pub(crate) all: u64,

@@ -25,7 +25,7 @@ static MACHINE: [&str; 7] = [
     "seed",
 ];
 
-/// The machine of a text that says nothing of it: one processor under CFS for 100 ms, with a tick each 4 ms.
+/// The machine of a text that says nothing of a machine: one processor under CFS for 100 ms, with a tick each 4 ms.
 const DEFAULT: Setup = Setup {
     discipline: DisciplineName::Cfs,
     size: ProcessorCount::One,
@@ -36,7 +36,7 @@ const DEFAULT: Setup = Setup {
     seed: 1,
 };
 
-/// The machine of a document that says nothing of one.
+/// Gives the machine of a document that says nothing of a machine.
 pub(crate) fn absent() -> Setup
     ensures { IsSetup no_members result }
 {

@@ -39,7 +39,7 @@ pub(crate) enum Wanted {
     Processors,
     /// A name of a task.
     Name,
-    /// `true`, which is all that `wait` takes.
+    /// `true`, the only value that `wait` takes.
     True,
     Action,
     Actions,
@@ -47,15 +47,15 @@ pub(crate) enum Wanted {
     Tables,
 }
 
-/// What is wrong.
+/// What is wrong with a table or a value.
 #[derive(Clone, Copy)]
 pub(crate) enum WorkloadCause<'a> {
-    /// Such a table has no such key, but these.
+    /// The table has an unknown key. Such a table takes the keys `known`.
     UnknownKey {
         key: &'a str,
         known: &'static [&'static str],
     },
-    /// The key has to be there.
+    /// A key is missing that has to be there.
     Missing(&'static str),
     /// The value is not what its key takes.
     NoSuch {
@@ -63,33 +63,33 @@ pub(crate) enum WorkloadCause<'a> {
         value: &'a Value,
         wanted: Wanted,
     },
-    /// An item of a list is not what it has to be.
+    /// An item of a list is not what the list takes.
     NoItem {
         value: &'a Value,
         wanted: Wanted,
     },
-    /// None of these tasks has the name.
+    /// No task has the name `name`. The tasks have the names `names`.
     UnknownTask {
         name: &'a str,
         names: &'a [String],
     },
-    /// A name has more bytes than one may have.
+    /// A name has more bytes than a name may have.
     LongName,
-    /// An earlier table has the name: the one of this number.
+    /// An earlier table has the same name: the table of the number `first`.
     TwoOfName {
         name: &'a str,
         first: usize,
     },
-    /// A `do` beside the keys that are short for one.
+    /// A `do` stands beside the keys that are short for a `do`.
     TwoForms,
     /// Nothing in a `do` takes time.
     NoTime,
-    /// The value names none of the processors of the machine, which has `processors` of them.
+    /// The value names no processor of the machine, which has this many processors.
     NoProcessor {
         value: &'a Value,
         processors: u8,
     },
-    /// All kinds together have more tasks than there may be.
+    /// All kinds together have more tasks than a machine may have.
     TooMany,
 }
 
@@ -137,7 +137,7 @@ impl fmt::Display for WorkloadCause<'_> {
     }
 }
 
-/// Says that a value is not what is wanted there.
+/// Says that a value is not what `wanted` describes.
 fn misfit<W: fmt::Write>(f: &mut fmt::Formatter<W>, value: &Value, wanted: &Wanted) -> fmt::Result {
     if let (Wanted::Length, Value::Table(table)) = (wanted, value) {
         return no_draw(f, table);
@@ -219,7 +219,7 @@ fn pair(value: &Value) -> Option<(&Value, &Value)> {
     }
 }
 
-/// Says that a value is not a duration, or none of a range.
+/// Says that a value is not a duration, or not a duration in a range.
 fn no_time<W: fmt::Write>(
     f: &mut fmt::Formatter<W>,
     value: &Value,
@@ -242,7 +242,7 @@ fn no_time<W: fmt::Write>(
     }
 }
 
-/// Says what a value is not, if the words do not depend on it.
+/// Says what a value is not, if the words do not depend on the value.
 fn described(wanted: &Wanted) -> &'static str {
     match wanted {
         Wanted::Nice => with_nice_values!("is not a nice value (a whole number from ", ")"),

@@ -26,7 +26,7 @@ use toml::{Table, Value};
 static DOCUMENT: [&str; 2] = ["machine", "task"];
 
 /// The workload that a text describes, on its machine with these changes. A text is called no TOML only if it is not TOML.
-/// The loop can follow it to its end, unless a machine may not have a changed duration.
+/// The loop can follow the workload to its end, unless a machine may not have a changed duration.
 pub fn read(alloc: Global, text: &str, changes: Changes) -> Result<Workload, WorkloadFault>
     ensures describes { IfOk result (DescribesWorkload text.now changes) }
     ensures sound { IfSome changes.duration (λ d. is_long d ≡ true) → IfOk result (λ w. first_flaw w ≡ None) }
@@ -96,7 +96,7 @@ fn machine(document: &Table) -> Result<Setup, Trouble<'_>>
     }
 }
 
-/// The table that a value is.
+/// Reads a value as a table.
 fn table_at<'a>(key: &'static str, value: &'a Value) -> Result<&'a Table, WorkloadCause<'a>>
     ensures { IfOk result (λ t. as_table (view value.now) ≡ Some (table_view t.now)) }
 {
@@ -130,7 +130,7 @@ fn tables(document: &Table) -> Result<&[Value], WorkloadCause<'_>>
     }
 }
 
-/// The names of the tasks, no two of which are equal. Each is of one task at least, so there are at most 1,024.
+/// The names of the tasks, no two of which are equal. Each name is of one task at least, so there are at most 1,024 names.
 fn names<'a>(alloc: Global, tables: &'a [Value]) -> Result<Vec<String>, Trouble<'a>>
     ensures names { IfOk result (λ v. AreTableNames (items_view tables.now) v.items) }
     ensures others { IfOk result (λ v. AreOthers [] v.items) }
