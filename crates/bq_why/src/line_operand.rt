@@ -50,8 +50,8 @@ impl LineOperand {
         }
     }
 
-    /// Whether a word has the form of its kind, if the kind is a number: digits, digits after `-` for a nice value, or hex digits after `0x`
-    /// for a mask. True if the kind is no number.
+    /// Whether a word has the form of its kind, if the kind is a number: digits, digits after `-` for a nice value, or hex digits
+    /// after `0x` for a mask. True if the kind is no number.
     pub fn has_form(self, word: &[u8]) -> bool {
         match self {
             LineOperand::Discipline

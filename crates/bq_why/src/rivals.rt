@@ -35,8 +35,9 @@ fn first_due(tasks: &[Entity]) -> Option<Entity>
     best
 }
 
-/// Finds another task that is as near to being chosen as `chosen`, so that the lower id wins. Under CFS this task has the same virtual
-/// runtime; under EEVDF it is eligible and has the same deadline. Of several such tasks, the first in the order of `tasks` is given.
+/// Finds another task that is as near to being chosen as `chosen`, so that the lower id wins. Under CFS this task has the same
+/// virtual runtime; under EEVDF it is eligible and has the same deadline. Of several such tasks, the first in the order of `tasks`
+/// is given.
 pub fn tied_with(discipline: DisciplineName, chosen: &Entity, tasks: &[Entity]) -> Option<Entity>
     requires { length tasks.now ≤ TASKS }
     ensures { result ≡ tied_with discipline chosen.now tasks.now }

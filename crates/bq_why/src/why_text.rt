@@ -127,7 +127,8 @@ impl WhyForm {
         self.write_reply(text, names, machine, processor, done)
     }
 
-    /// Adds when an event was done, and the words of its line. A wake is named by its task, and so is a wake's end on a line of its own.
+    /// Adds when an event was done, and the words of its line. A wake is named by its task, and so is a wake's end on a line of its
+    /// own.
     fn write_heading(
         &self,
         text: &mut String,
