@@ -21,7 +21,7 @@ pub enum LineFault<'a> {
     Byte,
     /// No command has this name.
     Name(&'a [u8]),
-    /// This many words follow the command, which takes another number of them.
+    /// This many words follow the command, which takes another number of words.
     Count { keyword: Keyword, count: usize },
     /// A word is not what its place takes.
     Word { word: &'a [u8], kind: LineOperand },

@@ -1,4 +1,4 @@
-//! What a pull sees, and which part of the rule decides it.
+//! What a pull sees, and which part of the rule decides the pull.
 ghost use Rattle.std.specs.Prelude.{◌≡◌, ◌<◌, ◌≤◌, length, take, IfOk};
 ghost use Rattle.bq_disc.specs.declared.limits.TheConstants.{TASKS};
 ghost use Rattle.bq_disc.specs.Movable.{movable_to, ids};
@@ -12,7 +12,7 @@ use bq_parts::Cpu;
 use bq_trace::{AnyCore, AnyCpu};
 use std::alloc::{AllocError, Global};
 
-/// What a pull sees before it happens.
+/// What a pull sees before the pull happens.
 #[derive(Drop)]
 pub struct PullSight {
     pub puller: u8,

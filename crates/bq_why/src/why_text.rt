@@ -245,7 +245,7 @@ impl WhyForm {
                 || self.shows_either(self.ran_before))
     }
 
-    /// Whether the window shows this task. No task is not shown.
+    /// Whether the window shows this task. False if there is no task.
     fn shows_either(&self, task: Option<u16>) -> bool {
         match task {
             Some(task) => self.window.shows_task(task),

@@ -109,7 +109,8 @@ pub(crate) fn place(names: &[String], name: &str) -> Option<usize>
     names.iter().position(|known| known.as_str() == name)
 }
 
-/// The actions of a list, or the number, from 1, of the first that is no action, and what is wrong with it.
+/// Reads the actions of a list. The error is the number, from 1, of the first item that is no action, and what is wrong with this
+/// item.
 pub(crate) fn actions<'a>(
     alloc: Global,
     values: &'a [Value],

@@ -1,4 +1,4 @@
-//! The changes to a workload's machine that are asked for beside its text.
+//! Changes to a workload's machine, for which the words of a command ask.
 ghost use Rattle.std.specs.Prelude.{◌≡◌};
 
 use bq_words::{DisciplineName, ProcessorCount};

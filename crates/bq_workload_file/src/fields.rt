@@ -93,7 +93,7 @@ pub(crate) fn number_at<'a>(
     }
 }
 
-/// How often a task does its actions; for ever if the key is absent.
+/// Reads how often a task does its actions: for ever if the key is absent.
 pub(crate) fn loops(table: &Table) -> Result<Option<u64>, WorkloadCause<'_>>
     ensures { result_ok result ≡ loops_of (get_member (codes "loops") (table_view table.now)) }
 {
@@ -143,7 +143,7 @@ pub(crate) fn nice(table: &Table) -> Result<i8, WorkloadCause<'_>>
     }
 }
 
-/// The processors that a task may use: of the machine's at least one.
+/// Reads the processors that a task may use: at least one of them is a processor of the machine.
 pub(crate) fn mask<'a>(table: &'a Table, all: u64, machine: u8) -> Result<u64, WorkloadCause<'a>>
     ensures { result_ok result ≡ or_default all (read_mask all) (get_member (codes "cpus") (table_view table.now)) }
 {

@@ -18,7 +18,7 @@ pub(crate) fn at<'a>(table: &'a Table, key: &str) -> Option<&'a Value>
     table.get(key)
 }
 
-/// The entry of a table that has one.
+/// Finds the entry of a table that has exactly one entry.
 pub(crate) fn only(table: &Table) -> Option<(&str, &Value)>
     ensures { option_map (λ p. (p.0.now, view p.1.now)) result ≡ only_of (table_view table.now) }
 {

@@ -186,7 +186,8 @@ fn no_draw<W: fmt::Write>(f: &mut fmt::Formatter<W>, table: &Table) -> fmt::Resu
     }
 }
 
-/// Says why a value is no least and greatest of a length: it is no pair, an end is not a duration, or they are not in order.
+/// Says why a value is no least and greatest of a length: the value is no pair, an end is not a duration, or the ends are not in
+/// order.
 fn no_ends<W: fmt::Write>(f: &mut fmt::Formatter<W>, ends: &Value) -> fmt::Result {
     f.write_str("uniform: ")?;
     let Some((least, greatest)) = pair(ends) else {
