@@ -9,7 +9,7 @@ use bq_parts::Event;
 use bq_report::{Csv, Json, Map, Names, Report, ScheduleForm, Timehist, Window};
 use bq_schedule::Schedule;
 use bq_trace::AnyCore;
-use bq_why::{Occurrence, Why};
+use bq_why::{Occurrence, WhyForm};
 use bq_words::DisciplineName;
 use std::alloc::{AllocError, Global};
 
@@ -24,7 +24,7 @@ pub enum Shown {
     Svg(Svg),
     Perfetto(Perfetto),
     /// This form is written from the machine itself, choice by choice.
-    Why(Why),
+    Why(WhyForm),
 }
 
 impl Shown {
@@ -41,7 +41,7 @@ impl Shown {
             FormName::Json => Shown::Json(Json::new(alloc, window)),
             FormName::Svg => Shown::Svg(Svg::new(alloc, window, look)),
             FormName::Perfetto => Shown::Perfetto(Perfetto::new(alloc, window)),
-            FormName::Why => Shown::Why(Why::new(alloc, window)),
+            FormName::Why => Shown::Why(WhyForm::new(alloc, window)),
         }
     }
 

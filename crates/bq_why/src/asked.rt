@@ -5,7 +5,7 @@ use bq_hooks::Hook;
 use bq_trace::{AnyCore, AnyCpu};
 use std::alloc::AllocError;
 
-/// What came of asking a policy: the steps that it took, and its answer if that is known.
+/// The outcome of asking a policy: the steps that the policy took, and its answer if the answer is known.
 #[derive(Clone, Copy)]
 pub(crate) struct Asked {
     /// The instructions that the policy took, 0 if no policy was asked.
@@ -45,7 +45,7 @@ impl Asked {
         }
     }
 
-    /// If a policy's answer is known, adds that it is not permitted. Call this if the discipline decided.
+    /// Adds that the policy's answer is not permitted, if the answer is known. Call this if the discipline decided.
     pub fn write_overruled(&self, text: &mut String) -> Result<(), AllocError> {
         let steps = self.steps;
         match self.answer {

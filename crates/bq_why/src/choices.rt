@@ -10,7 +10,8 @@ use bq_disc::Entity;
 use bq_disc::limits::TASKS;
 use bq_words::DisciplineName;
 
-/// The task that a discipline chooses: CFS the one of least (v, id), EEVDF the eligible one of least (deadline, id). `None` if there is no such task.
+/// The task that a discipline chooses: CFS the one of least (v, id), EEVDF the eligible one of least (deadline, id). `None` if
+/// there is no such task.
 pub fn choice(discipline: DisciplineName, tasks: &[Entity]) -> Option<Entity>
     requires { length tasks.now ≤ TASKS }
     ensures { result ≡ (discipline_of discipline).choice tasks.now }
@@ -47,7 +48,8 @@ fn run_first(task: &Entity, other: Option<Entity>) -> Entity
     }
 }
 
-/// The task of least (deadline, id) among those whose v is at most the mean. The tasks have this weight and this sum of weight times v together.
+/// The task of least (deadline, id) among those whose v is at most the mean. The tasks have this weight and this sum of weight
+/// times v together.
 fn earliest(tasks: &[Entity], weight: u64, moment: u128) -> Option<Entity>
     ensures { result ≡ first_by due_before (filter (is_at_most_mean weight moment) tasks.now) }
 {

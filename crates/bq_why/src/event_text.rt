@@ -7,7 +7,8 @@ use bq_parts::{Event, Refusal};
 use bq_weights::with_nice_values;
 use std::fmt;
 
-/// An event as the trace names it, without its time. The beginning of a wake, which `wake` and `begin` both ask for, is named as a wake.
+/// An event as the trace names it, without its time. The beginning of a wake, which `wake` and `begin` both ask for, is named as a
+/// wake.
 #[derive(Clone, Copy)]
 pub struct EventText<'a>(pub &'a Event);
 

@@ -7,8 +7,8 @@ pub fn eligible_up_to_the_mean()
     ensures { EligibleUpToTheMean }
 {}
 
-/// If another eligible task has the same deadline as the choice, the choice has the lower id. Under CFS this holds for another task of the
-/// same virtual runtime.
+/// If another eligible task has the same deadline as the choice, the choice has the lower id. Under CFS this holds for another task
+/// of the same virtual runtime.
 #[tactic(auto, using(crate::proofs::LawLemmas::lower_id_wins))]
 pub fn lower_id_wins()
     ensures { LowerIdWins }

@@ -1,7 +1,7 @@
-//! Why a task runs: the tasks of a processor as a choice saw them, and the discipline's reason for the running one. The form `why` puts
-//! this into words. Also why a line of a trace is bad.
-//! Promises that what it calls eligible is eligible by the definition, that the choice, the mean, the task passed over, and a
-//! pull's sizes and tasks are the definition's, and that it names a policy exactly when the answer does.
+//! Why a task runs: the tasks of a processor as a choice saw them, and the discipline's reason for the running one. The form `why`
+//! puts this into words. Also why a line of a trace is bad.
+//! Promises that a task which the form calls eligible is eligible by the definition, that the choice, the mean, the task passed
+//! over, and a pull's sizes and tasks are the definition's, and that the form names a policy exactly when the answer does.
 //! Builds on the definitions of the two disciplines, on a trace's machine, and on the words of bq_report.
 #![tactic(auto)]
 
@@ -28,7 +28,7 @@ pub use choices::choice;
 pub use event_text::{RefusalText, RefusedEvent};
 pub use presence::{present, waiting};
 pub use pull_sight::{OwnPull, PullSight, sight};
-pub use reasons::{Reason, why};
+pub use reasons::{Reason, reason};
 pub use rivals::{passed_over, tied_with};
 pub use task_row::{TaskRow, measured_from, rows};
-pub use why_text::{Occurrence, Why, processor_and_time};
+pub use why_text::{Occurrence, WhyForm, processor_and_time};

@@ -8,7 +8,7 @@ use bq_words::{Near, next_word};
 use std::alloc::{AllocError, Global};
 use std::{fmt, str};
 
-/// What is said of a first line that makes no machine.
+/// Says that the first line of a trace makes no machine, and that nothing after this line is done.
 pub const NOT_READ_ON: &str =
     "a trace begins with its machine line, and nothing after this is done";
 
@@ -21,7 +21,7 @@ pub enum LineFault<'a> {
     Byte,
     /// No command has this name.
     Name(&'a [u8]),
-    /// This many words follow the command, which takes another number of them.
+    /// This many words follow the command, which takes another number of words.
     Count { keyword: Keyword, count: usize },
     /// A word is not what its place takes.
     Word { word: &'a [u8], kind: LineOperand },
@@ -31,7 +31,7 @@ pub enum LineFault<'a> {
     NoMachine,
 }
 
-/// Why a bad line is bad. `line` is `None` if it is too long. `is_open` says whether the machine is made.
+/// Finds why a bad line is bad. `line` is `None` if the line is too long. `is_open` says whether the machine is made.
 pub fn why_bad(line: Option<&[u8]>, is_open: bool) -> LineFault<'_> {
     let Some(line) = line else {
         return LineFault::TooLong;
@@ -52,7 +52,7 @@ pub fn why_bad(line: Option<&[u8]>, is_open: bool) -> LineFault<'_> {
     }
 }
 
-/// What is wrong with the words after a keyword: their number, or the first word that does not fit. `None` if nothing is.
+/// Finds what is wrong with the words after a keyword: their number, or the first word that does not fit. `None` if all is right.
 fn word_fault(keyword: Keyword, operands: &[u8]) -> Option<LineFault<'_>> {
     let kinds = operands_of(keyword);
     let mut rest = operands;
@@ -74,7 +74,7 @@ fn word_fault(keyword: Keyword, operands: &[u8]) -> Option<LineFault<'_>> {
     }
 }
 
-/// The keyword that is near an unknown one, if the fault is that, and one is near.
+/// Finds a keyword that is near an unknown one, if the fault is an unknown keyword and a known one is near.
 pub fn meant_keyword(
     alloc: Global,
     fault: &LineFault<'_>,

@@ -1,4 +1,4 @@
-//! The words that follow each keyword: what each must be, and what is said of one that does not fit.
+//! The words that follow each keyword: what each word must be, and the text that reports a word that does not fit.
 ghost use Rattle.std.specs.Prelude.{◌≡◌, ◌&&◌, length, nat_lt};
 ghost use Rattle.std.specs.Char.{is_ascii_digit};
 ghost use Rattle.std.specs.List.{list_all};
@@ -50,8 +50,8 @@ impl LineOperand {
         }
     }
 
-    /// Whether a word has the form of its kind, if the kind is a number: digits, digits after `-` for a nice value, or hex digits after `0x`
-    /// for a mask. True if the kind is no number.
+    /// Whether a word has the form of its kind, if the kind is a number: digits, digits after `-` for a nice value, or hex digits
+    /// after `0x` for a mask. True if the kind is no number.
     pub fn has_form(self, word: &[u8]) -> bool {
         match self {
             LineOperand::Discipline
@@ -77,7 +77,7 @@ impl LineOperand {
         }
     }
 
-    /// What is said of a word without this form.
+    /// Says that a word does not have the form of this kind.
     pub fn formless(self) -> &'static str {
         match self {
             LineOperand::Mask => "is no mask (decimal, or hex after 0x)",
@@ -85,7 +85,7 @@ impl LineOperand {
         }
     }
 
-    /// What the word is called in the form of a line.
+    /// Names a word of this kind in the form of a line.
     pub fn name(self) -> &'static str {
         match self {
             LineOperand::Discipline => with_disciplines!(""),
@@ -102,7 +102,7 @@ impl LineOperand {
         }
     }
 
-    /// What is said of a word that does not fit.
+    /// Says that a word is not of this kind.
     fn words(self) -> &'static str {
         match self {
             LineOperand::Discipline => with_disciplines!("is no rule (", ")"),

@@ -7,8 +7,8 @@ use bq_disc::{Entity, RunQueue};
 use bq_parts::Cpu;
 use std::alloc::{AllocError, Global};
 
-/// The tasks that run or wait at a processor: the running one first, then the queue by rising (v, id). It lists 1,024 at most, and
-/// there are no more ids than that.
+/// Lists the tasks that run or wait at a processor: the running one first, then the queue by rising (v, id). The list has at most
+/// 1,024 tasks, and there are no more ids than that.
 pub fn present<Q: RunQueue>(alloc: Global, cpu: &Cpu<Q>) -> Result<Vec<Entity>, AllocError>
     ensures few { IfOk result (λ tasks. length tasks.items ≤ TASKS) }
     ensures all { IfOk result (λ tasks. length (present_at cpu.now.running) ≤ TASKS → tasks.items ≡ present_at cpu.now.running) }

@@ -1,4 +1,4 @@
-//! What a pull sees, and which part of the rule decides it.
+//! What a pull sees, and which part of the rule decides the pull.
 ghost use Rattle.std.specs.Prelude.{◌≡◌, ◌<◌, ◌≤◌, length, take, IfOk};
 ghost use Rattle.bq_disc.specs.declared.limits.TheConstants.{TASKS};
 ghost use Rattle.bq_disc.specs.Movable.{movable_to, ids};
@@ -12,7 +12,7 @@ use bq_parts::Cpu;
 use bq_trace::{AnyCore, AnyCpu};
 use std::alloc::{AllocError, Global};
 
-/// What a pull sees before it happens.
+/// What a pull sees before the pull happens.
 #[derive(Drop)]
 pub struct PullSight {
     pub puller: u8,
@@ -51,7 +51,7 @@ impl PullSight {
     }
 }
 
-/// What a pull of one processor from another sees. `None` if the machine lacks one of them.
+/// Finds what a pull of one processor from another sees. `None` if the machine lacks one of the two processors.
 pub(crate) fn sight_of(
     alloc: Global,
     machine: &AnyCore,
@@ -73,7 +73,7 @@ pub(crate) fn sight_of(
     Ok(Some(sight))
 }
 
-/// What a pull from one processor to another sees.
+/// Finds what a pull from one processor to another sees.
 pub fn sight<Q: RunQueue>(
     alloc: Global,
     puller: u8,

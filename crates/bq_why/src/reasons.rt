@@ -21,16 +21,16 @@ pub enum Reason {
     EarliestDeadline,
     /// The task has the least virtual runtime.
     LeastRuntime,
-    /// The task has the least virtual runtime. The one that ran was so far ahead of it that it gives way.
+    /// The task has the least virtual runtime. The task that ran before gives way, because it was so far ahead.
     GivesWay { ahead: u64 },
-    /// The task runs on: it is ahead of task `of`, but not so far that it gives way.
+    /// The task runs on: it is ahead of task `of`, but not far enough to give way.
     Stays { ahead: u64, of: u16 },
     /// The task is not the discipline's choice.
     Other,
 }
 
-/// Why `run` runs, among the tasks that are there. `by` made the choice, and `was` ran before.
-pub fn why(
+/// Finds why `run` runs, among the tasks that are there. `by` made the choice, and `was` ran before.
+pub fn reason(
     discipline: DisciplineName,
     by: By,
     was: Option<u16>,
@@ -59,7 +59,7 @@ pub fn why(
     }
 }
 
-/// Under EEVDF, whether this task is the choice.
+/// Finds the reason under EEVDF, by whether `run` is the choice.
 fn eevdf_reason(run: u16, chosen: Option<Entity>) -> Reason
     ensures { result ≡ eevdf_reason_of run chosen }
 {
@@ -69,7 +69,7 @@ fn eevdf_reason(run: u16, chosen: Option<Entity>) -> Reason
     }
 }
 
-/// Under CFS, by the task that ran before, the task of least virtual runtime, and the running task.
+/// Finds the reason under CFS, by the task that ran before, the task of least virtual runtime, and the running task.
 fn cfs_reason(ran: Option<Entity>, least: Option<Entity>, runs: Option<Entity>) -> Reason
     ensures { result ≡ cfs_reason_of ran least runs }
 {
@@ -88,7 +88,7 @@ fn cfs_reason(ran: Option<Entity>, least: Option<Entity>, runs: Option<Entity>) 
     }
 }
 
-/// Under CFS, if the task of least virtual runtime runs.
+/// Finds the reason under CFS if the task of least virtual runtime runs.
 fn least_reason(ran: Option<Entity>, least: &Entity) -> Reason
     ensures { result ≡ least_reason_of ran least.now }
 {

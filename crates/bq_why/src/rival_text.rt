@@ -10,7 +10,8 @@ use bq_report::{Millis, Names};
 use bq_words::DisciplineName;
 use std::alloc::AllocError;
 
-/// Ends a line with the eligible task of the same deadline, if there is one, and the task that is due first of all but not eligible.
+/// Ends a line with the eligible task of the same deadline, if there is one, and the task that is due first of all but not
+/// eligible.
 pub(crate) fn write_deadlines(
     text: &mut String,
     names: &Names,
@@ -71,8 +72,8 @@ pub(crate) fn write_giving_way(
     write!(text, "{was} gives way: {ahead} ms ahead of {run}")
 }
 
-/// Ends a line with the task of the same virtual runtime as the running one, if there is one. If the running task ran before, it runs on;
-/// otherwise the lower id wins.
+/// Ends a line with the task of the same virtual runtime as the running one, if there is one. If the running task ran before, it
+/// runs on; otherwise the lower id wins.
 pub(crate) fn write_equal_runtime(
     text: &mut String,
     names: &Names,

@@ -10,7 +10,7 @@ use bq_disc::Entity;
 use bq_disc::limits::TASKS;
 use bq_words::DisciplineName;
 
-/// Under EEVDF the task that is due first of all, if it is not eligible: the choice passes it over.
+/// Finds the task that a choice under EEVDF passes over: the task that is due first of all, if this task is not eligible.
 pub fn passed_over(tasks: &[Entity]) -> Option<Entity>
     requires { length tasks.now ≤ TASKS }
     ensures { result ≡ passed_over tasks.now }
@@ -35,8 +35,9 @@ fn first_due(tasks: &[Entity]) -> Option<Entity>
     best
 }
 
-/// Another task that is as near to being chosen, so that the lower id wins. Under CFS it has the same virtual runtime, under EEVDF it is
-/// eligible and has the same deadline. Of several it is the first in their order.
+/// Finds another task that is as near to being chosen as `chosen`, so that the lower id wins. Under CFS this task has the same
+/// virtual runtime; under EEVDF it is eligible and has the same deadline. Of several such tasks, the first in the order of `tasks`
+/// is given.
 pub fn tied_with(discipline: DisciplineName, chosen: &Entity, tasks: &[Entity]) -> Option<Entity>
     requires { length tasks.now ≤ TASKS }
     ensures { result ≡ tied_with discipline chosen.now tasks.now }

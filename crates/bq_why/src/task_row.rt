@@ -23,7 +23,8 @@ pub struct TaskRow {
     pub deadline: u64,
     /// Whether the task's v is at most the mean of all, so that it has had no more than its share.
     pub is_eligible: bool,
-    /// How much the task is owed if it is eligible, otherwise how much more than its share it has had, in nanoseconds of the processor.
+    /// How much the task is owed if it is eligible, otherwise how much more than its share it has had, in nanoseconds of the
+    /// processor.
     pub lag: u128,
 }
 
@@ -59,8 +60,8 @@ fn row_among(task: &Entity, weight: u64, moment: u128, mean: u64) -> TaskRow
     }
 }
 
-/// The virtual time that a discipline measures its tasks from: CFS from the least v, EEVDF from the mean v, rounded down. `None` if there is no
-/// task.
+/// The virtual time that a discipline measures its tasks from: CFS from the least v, EEVDF from the mean v, rounded down. `None` if
+/// there is no task.
 pub fn measured_from(discipline: DisciplineName, tasks: &[Entity]) -> Option<u64>
     requires { length tasks.now ≤ TASKS }
     ensures { result ≡ measured_from discipline tasks.now }

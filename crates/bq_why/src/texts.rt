@@ -95,7 +95,7 @@ impl fmt::Display for StandingText {
     }
 }
 
-/// What a discipline measures its tasks from, in words.
+/// Names what a discipline measures its tasks from.
 fn origin_name(discipline: DisciplineName) -> &'static str
     ensures { result.now ≡ origin_name discipline }
 {

@@ -26,17 +26,17 @@ pub struct Occurrence<'a> {
     pub change: &'a Change,
 }
 
-/// The form `why`, for what is in its window.
+/// The form `why`, for the choices in its window.
 #[derive(Drop)]
-pub struct Why {
+pub struct WhyForm {
     alloc: Global,
     window: Window,
-    /// The task that ran at the processor of the next event.
-    was: Option<u16>,
+    /// The task that ran before the next event, at the processor of this event.
+    ran_before: Option<u16>,
     /// The line on which the last wake began.
-    begun: Option<u64>,
-    /// What the next event sees, if it is a pull.
-    sight: Option<PullSight>,
+    begun_at_line: Option<u64>,
+    /// What the next event sees, if the event is a pull.
+    pull_sight: Option<PullSight>,
 }
 
 /// The processor at which an event may choose, and the event's time. `None` if the event makes no choice.
@@ -66,17 +66,17 @@ fn running(machine: &AnyCore, processor: u8) -> Option<u16> {
     }
 }
 
-impl Why {
+impl WhyForm {
     /// A form for the choices in the window.
-    pub fn new(alloc: Global, window: Window) -> Why
+    pub fn new(alloc: Global, window: Window) -> WhyForm
         ensures { result.window ≡ window }
     {
-        Why {
+        WhyForm {
             alloc,
             window,
-            was: None,
-            begun: None,
-            sight: None,
+            ran_before: None,
+            begun_at_line: None,
+            pull_sight: None,
         }
     }
 
@@ -88,13 +88,13 @@ impl Why {
         machine: &AnyCore,
     ) -> Result<(), AllocError> {
         if let Event::BeginWake { .. } = event {
-            self.begun = Some(number);
+            self.begun_at_line = Some(number);
         }
-        self.was = match processor_and_time(event) {
+        self.ran_before = match processor_and_time(event) {
             Some((processor, _)) => running(machine, processor),
             None => None,
         };
-        self.sight = match event {
+        self.pull_sight = match event {
             Event::Pull {
                 processor,
                 from,
@@ -127,7 +127,8 @@ impl Why {
         self.write_reply(text, names, machine, processor, done)
     }
 
-    /// Adds when an event was done, and the words of its line. A wake is named by its task, and so is a wake's end on a line of its own.
+    /// Adds when an event was done, and the words of its line. A wake is named by its task, and so is a wake's end on a line of its
+    /// own.
     fn write_heading(
         &self,
         text: &mut String,
@@ -141,7 +142,7 @@ impl Why {
         match done.reply {
             Reply::Placed { task, .. } => {
                 let who = TaskText { names, task: *task };
-                let part = if self.begun == Some(number) {
+                let part = if self.begun_at_line == Some(number) {
                     ""
                 } else {
                     "end of the "
@@ -180,7 +181,7 @@ impl Why {
             Reply::Drained { run, by, steps, .. } | Reply::Ticked { run, by, steps } => {
                 let choice = RunChoice {
                     processor,
-                    was: self.was,
+                    was: self.ran_before,
                     run: *run,
                     by: *by,
                     asked: Asked::at(machine, processor, Hook::Preempt, *steps),
@@ -200,7 +201,7 @@ impl Why {
             } => {
                 let asked = Asked::at(machine, processor, Hook::Pull, *steps);
                 self.write_pulled(text, names, *task, *by, &asked)?;
-                if self.was.is_none() {
+                if self.ran_before.is_none() {
                     self.write_start(text, names, machine, processor, *run)
                 } else {
                     Ok(())
@@ -219,7 +220,7 @@ impl Why {
         by: By,
         asked: &Asked,
     ) -> Result<(), AllocError> {
-        match &self.sight {
+        match &self.pull_sight {
             Some(sight) => {
                 write_sight(text, names, sight)?;
                 write_pull(text, names, sight, task, by, asked)
@@ -241,10 +242,10 @@ impl Why {
             && self.window.shows_processor(processor)
             && (self.window.tasks.is_empty()
                 || self.shows_either(task)
-                || self.shows_either(self.was))
+                || self.shows_either(self.ran_before))
     }
 
-    /// Whether the window shows this task. No task is not shown.
+    /// Whether the window shows this task. False if there is no task.
     fn shows_either(&self, task: Option<u16>) -> bool {
         match task {
             Some(task) => self.window.shows_task(task),
@@ -263,7 +264,7 @@ impl Why {
     ) -> Result<(), AllocError> {
         let choice = RunChoice {
             processor,
-            was: self.was,
+            was: self.ran_before,
             run,
             by: By::Discipline,
             asked: Asked::nobody(),

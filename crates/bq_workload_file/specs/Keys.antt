@@ -6,8 +6,8 @@ use Rattle.std.specs.Str.{bytes_eq}
 use Rattle.toml.specs.Data.{Members, no_members, member}
 use Rattle.bq_workload_file.specs.declared.blame.Trouble.{Trouble}
 use Rattle.bq_workload_file.specs.declared.blame.Trouble.TheVariants.{At, OutOfMemory}
-use Rattle.bq_workload_file.specs.declared.why.Why.{Why}
-use Rattle.bq_workload_file.specs.declared.why.Why.TheVariants.{UnknownKey}
+use Rattle.bq_workload_file.specs.declared.workload_cause.WorkloadCause.{WorkloadCause}
+use Rattle.bq_workload_file.specs.declared.workload_cause.WorkloadCause.TheVariants.{UnknownKey}
 
 -- the keys of a document
 abbrev pub document_keys : List (List ℕ)
@@ -32,7 +32,7 @@ first_unknown words no_members = None
 first_unknown words (member key value more) = if is_one_of words key then first_unknown words more else Some key
 
 -- the key that is reported as unknown
-abbrev pub unknown_key : Why → Option (List ℕ)
+abbrev pub unknown_key : WorkloadCause → Option (List ℕ)
 unknown_key (UnknownKey key known) = Some key.now
 unknown_key why = None
 

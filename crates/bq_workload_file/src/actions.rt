@@ -7,7 +7,7 @@ ghost use Rattle.bq_workload_file.specs.Actions.{action_of, action_of_entry, wai
 
 use crate::lengths::length;
 use crate::tables::only;
-use crate::why::{Wanted, Why};
+use crate::workload_cause::{Wanted, WorkloadCause};
 use bq_workload::Action;
 use std::alloc::{AllocError, Global};
 use toml::Value;
@@ -16,10 +16,10 @@ use toml::Value;
 static ACTION: [&str; 4] = ["run", "sleep", "wait", "wake"];
 
 /// One action: a table of one entry.
-pub(crate) fn action<'a>(value: &'a Value, names: &'a [String]) -> Result<Action, Why<'a>>
+pub(crate) fn action<'a>(value: &'a Value, names: &'a [String]) -> Result<Action, WorkloadCause<'a>>
     ensures { result_ok result ≡ action_of names.now (view value.now) }
 {
-    let wrong = Why::NoItem {
+    let wrong = WorkloadCause::NoItem {
         value,
         wanted: Wanted::Action,
     };
@@ -34,7 +34,11 @@ pub(crate) fn action<'a>(value: &'a Value, names: &'a [String]) -> Result<Action
 }
 
 /// The action of an entry.
-fn entry<'a>(key: &'a str, value: &'a Value, names: &'a [String]) -> Result<Action, Why<'a>>
+fn entry<'a>(
+    key: &'a str,
+    value: &'a Value,
+    names: &'a [String],
+) -> Result<Action, WorkloadCause<'a>>
     ensures { result_ok result ≡ action_of_entry names.now key.now (view value.now) }
 {
     match key {
@@ -42,7 +46,7 @@ fn entry<'a>(key: &'a str, value: &'a Value, names: &'a [String]) -> Result<Acti
         "sleep" => Ok(Action::Sleep(phase("sleep", value)?)),
         "wait" => waiting(value),
         "wake" => waking(value, names),
-        _ => Err(Why::UnknownKey {
+        _ => Err(WorkloadCause::UnknownKey {
             key,
             known: &ACTION,
         }),
@@ -50,12 +54,15 @@ fn entry<'a>(key: &'a str, value: &'a Value, names: &'a [String]) -> Result<Acti
 }
 
 /// A length at this key.
-pub(crate) fn phase<'a>(key: &'static str, value: &'a Value) -> Result<bq_workload::Length, Why<'a>>
+pub(crate) fn phase<'a>(
+    key: &'static str,
+    value: &'a Value,
+) -> Result<bq_workload::Length, WorkloadCause<'a>>
     ensures { result_ok result ≡ read_length (view value.now) }
 {
     match length(value) {
         Some(length) => Ok(length),
-        None => Err(Why::NoSuch {
+        None => Err(WorkloadCause::NoSuch {
             key,
             value,
             wanted: Wanted::Length,
@@ -64,12 +71,12 @@ pub(crate) fn phase<'a>(key: &'static str, value: &'a Value) -> Result<bq_worklo
 }
 
 /// A task waits if `wait` is true.
-fn waiting<'a>(value: &'a Value) -> Result<Action, Why<'a>>
+fn waiting<'a>(value: &'a Value) -> Result<Action, WorkloadCause<'a>>
     ensures { result_ok result ≡ wait_action (view value.now) }
 {
     match value.as_bool() {
         Some(true) => Ok(Action::Wait),
-        _ => Err(Why::NoSuch {
+        _ => Err(WorkloadCause::NoSuch {
             key: "wait",
             value,
             wanted: Wanted::True,
@@ -78,12 +85,12 @@ fn waiting<'a>(value: &'a Value) -> Result<Action, Why<'a>>
 }
 
 /// A task wakes the tasks of the kind with this name.
-fn waking<'a>(value: &'a Value, names: &'a [String]) -> Result<Action, Why<'a>>
+fn waking<'a>(value: &'a Value, names: &'a [String]) -> Result<Action, WorkloadCause<'a>>
     ensures { result_ok result ≡ wake_action names.now (view value.now) }
 {
     let name = match value.as_str() {
         Some(name) => name,
-        None => return Err(Why::NoSuch {
+        None => return Err(WorkloadCause::NoSuch {
             key: "wake",
             value,
             wanted: Wanted::Name,
@@ -91,7 +98,7 @@ fn waking<'a>(value: &'a Value, names: &'a [String]) -> Result<Action, Why<'a>>
     };
     match place(names, name) {
         Some(kind) => Ok(Action::Wake(kind)),
-        None => Err(Why::UnknownTask { name, names }),
+        None => Err(WorkloadCause::UnknownTask { name, names }),
     }
 }
 
@@ -102,12 +109,13 @@ pub(crate) fn place(names: &[String], name: &str) -> Option<usize>
     names.iter().position(|known| known.as_str() == name)
 }
 
-/// The actions of a list, or the number, from 1, of the first that is no action, and what is wrong with it.
+/// Reads the actions of a list. The error is the number, from 1, of the first item that is no action, and what is wrong with this
+/// item.
 pub(crate) fn actions<'a>(
     alloc: Global,
     values: &'a [Value],
     names: &'a [String],
-) -> Result<Result<Vec<Action>, (usize, Why<'a>)>, AllocError>
+) -> Result<Result<Vec<Action>, (usize, WorkloadCause<'a>)>, AllocError>
     ensures { IfOk result (λ read. option_map (λ v. v.items) (result_ok read) ≡ actions_with names.now [] (items_view values.now)) }
 {
     let mut actions = Vec::new(alloc);

@@ -3,7 +3,7 @@ ghost use Rattle.std.specs.Prelude.{◌≡◌, option_and_then};
 ghost use Rattle.std.specs.Result.{result_err, result_ok};
 ghost use Rattle.bq_workload_file.specs.Keys.{unknown_key, unknown_there};
 
-use crate::why::Why;
+use crate::workload_cause::WorkloadCause;
 use std::alloc::{AllocError, AllocFailed};
 use std::fmt;
 
@@ -57,13 +57,13 @@ fn task<W: fmt::Write>(
     }
 }
 
-/// Why a document is no workload, with what it lends.
+/// Why a document is no workload. The value borrows from the document.
 #[derive(Clone, Copy)]
 pub(crate) enum Trouble<'a> {
-    /// Something is wrong in it.
+    /// Something is wrong in the document.
     At {
         place: DocumentLocation<'a>,
-        why: Why<'a>,
+        why: WorkloadCause<'a>,
     },
     OutOfMemory,
 }
@@ -93,8 +93,11 @@ impl<'a> DocumentLocation<'a> {
         }
     }
 
-    /// What was read here, or what is wrong here.
-    pub(crate) fn locate<T: Drop>(self, read: Result<T, Why<'a>>) -> Result<T, Trouble<'a>>
+    /// Passes on what was read at this place, or adds this place to what is wrong.
+    pub(crate) fn locate<T: Drop>(
+        self,
+        read: Result<T, WorkloadCause<'a>>,
+    ) -> Result<T, Trouble<'a>>
         ensures read { result_ok result ≡ result_ok read.entry }
         ensures unknown { option_and_then unknown_there (result_err result) ≡ option_and_then unknown_key (result_err read.entry) }
     {

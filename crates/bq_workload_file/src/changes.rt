@@ -1,10 +1,10 @@
-//! What is asked for beside a workload's text.
+//! Changes to a workload's machine, for which the words of a command ask.
 ghost use Rattle.std.specs.Prelude.{◌≡◌};
 
 use bq_words::{DisciplineName, ProcessorCount};
 use bq_workload::Setup;
 
-/// What the words of a command put in the place of a machine's own.
+/// The values that the words of a command put in the place of a machine's own values.
 #[derive(Clone, Copy)]
 pub struct Changes {
     pub discipline: Option<DisciplineName>,

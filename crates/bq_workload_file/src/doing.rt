@@ -8,12 +8,12 @@ ghost use Rattle.bq_workload_file.specs.Workloads.{table_actions, short_of};
 use crate::actions::{actions, phase};
 use crate::blame::{DocumentLocation, Trouble};
 use crate::tables::at;
-use crate::why::{Wanted, Why};
+use crate::workload_cause::{Wanted, WorkloadCause};
 use bq_workload::Action;
 use std::alloc::Global;
 use toml::{Table, Value};
 
-/// What a task does: its `do`, or `run` and `sleep`, which are short for one.
+/// Reads what a task does: its `do`, or `run` and `sleep`, which are short for a `do`.
 pub(crate) fn all_actions<'a>(
     alloc: Global,
     table: &'a Table,
@@ -30,7 +30,7 @@ pub(crate) fn all_actions<'a>(
             if run.is_some() || sleep.is_some() {
                 return Err(Trouble::At {
                     place,
-                    why: Why::TwoForms,
+                    why: WorkloadCause::TwoForms,
                 });
             }
             long(alloc, place, value, names)
@@ -52,7 +52,7 @@ fn short<'a>(
         Some(value) => actions.push(Action::Run(place.locate(phase("run", value))?))?,
         None => return Err(Trouble::At {
             place,
-            why: Why::Missing("do (or run)"),
+            why: WorkloadCause::Missing("do (or run)"),
         }),
     }
     if let Some(value) = sleep {
@@ -73,7 +73,7 @@ fn long<'a>(
     let values = match value.as_array() {
         Some(values) => values,
         None => {
-            let why = Why::NoSuch {
+            let why = WorkloadCause::NoSuch {
                 key: "do",
                 value,
                 wanted: Wanted::Actions,

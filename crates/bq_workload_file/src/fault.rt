@@ -8,22 +8,22 @@ ghost use Rattle.bq_workload_file.specs.Workloads.{IsWorkloadFault};
 
 use crate::blame::DocumentLocation;
 use crate::near::{meant_word, nearest_name};
-use crate::why::Why;
+use crate::workload_cause::WorkloadCause;
 use std::alloc::{AllocError, Global};
 use std::fmt::Write;
 use thiserror::Error;
 
-/// Why a text is no workload. After the name of its file, as `w.toml:14:9: ..` or `w.toml: [[task]] 2 (server): ..`.
+/// Why a text is no workload. Written after the name of the text's file, as `w.toml:14:9: ..` or `w.toml: [[task]] 2 (server): ..`.
 #[derive(Debug, Drop, Error)]
 pub enum WorkloadFault {
-    /// It is no TOML: the line and the column, both from 1, and what is wrong there.
+    /// The text is no TOML: the line and the column, both from 1, and what is wrong there.
     #[error(":{line}:{column}: {message}")]
     Syntax {
         line: usize,
         column: usize,
         message: String,
     },
-    /// It is TOML, but no workload: the place in the document, and what is wrong.
+    /// The text is TOML, but no workload: the place in the document, and what is wrong.
     #[error(": {0}")]
     Meaning(String),
     #[error(": out of memory")]
@@ -36,7 +36,7 @@ impl From<AllocError> for WorkloadFault {
     }
 }
 
-/// Where a text is no TOML, and why.
+/// Reports where a text is no TOML, and why.
 pub(crate) fn syntax(alloc: Global, text: &str, error: &toml::de::Error) -> WorkloadFault
     requires { ¬ IsMemory error.now → parse_document text.now ≡ None }
     ensures { IsWorkloadFault text.now result }
@@ -56,7 +56,7 @@ pub(crate) fn syntax(alloc: Global, text: &str, error: &toml::de::Error) -> Work
     }
 }
 
-/// The line and the column, both from 1, of what comes after these bytes. A column counts characters.
+/// Counts the line and the column, both from 1, of what comes after these bytes. A column counts characters.
 fn position(before: &[u8]) -> (usize, usize)
     ensures line { result.0 ≡ line_after before.now }
     ensures column { result.1 ≡ column_after before.now }
@@ -91,30 +91,30 @@ fn is_char_start(byte: u8) -> bool
     byte < 0x80 || byte >= 0xC0
 }
 
-/// What is wrong, with its place and the word that was perhaps meant.
+/// Reports what is wrong, with its place and the word that was perhaps meant.
 pub(crate) fn meaning(
     alloc: Global,
     place: &DocumentLocation<'_>,
-    why: &Why<'_>,
+    why: &WorkloadCause<'_>,
 ) -> Result<WorkloadFault, AllocError>
     ensures { IfOk result (λ fault. (text : List ℕ) → IsSome (parse_document text) → IsWorkloadFault text fault) }
 {
     let mut text = String::new(alloc);
     write!(text, "{place}{why}")?;
     let near = match why {
-        Why::UnknownKey { key, known } => meant_word(alloc, key, known)?,
-        Why::UnknownTask { name, names } => nearest_name(alloc, name, names)?,
+        WorkloadCause::UnknownKey { key, known } => meant_word(alloc, key, known)?,
+        WorkloadCause::UnknownTask { name, names } => nearest_name(alloc, name, names)?,
         _ => None,
     };
     match (near, why) {
         (Some(near), _) => write!(text, ", did you mean {near:?}?")?,
-        (None, Why::UnknownKey { known, .. }) => add_keys(&mut text, known)?,
+        (None, WorkloadCause::UnknownKey { known, .. }) => add_keys(&mut text, known)?,
         (None, _) => {}
     }
     Ok(WorkloadFault::Meaning(text))
 }
 
-/// Adds which keys there are.
+/// Adds the keys that there are.
 fn add_keys(text: &mut String, keys: &[&str]) -> Result<(), AllocError> {
     let mut before = "; the keys are ";
     for key in keys {

@@ -7,7 +7,7 @@ ghost use Rattle.bq_words.specs.ProcessorSets.{processors_of};
 ghost use Rattle.bq_workload_file.specs.Fields.{read_within, span_in, number_in, or_default, read_nice, discipline_in, size_in, name_in_members, read_mask, loops_of};
 
 use crate::tables::at;
-use crate::why::{NumberRange, Wanted, Why};
+use crate::workload_cause::{NumberRange, Wanted, WorkloadCause};
 use bq_weights::is_nice;
 use bq_words::processor_sets::processors;
 use bq_words::{DisciplineName, ProcessorCount, duration};
@@ -53,14 +53,14 @@ pub(crate) fn span_at<'a>(
     key: &'static str,
     default: u64,
     range: NumberRange,
-) -> Result<u64, Why<'a>>
+) -> Result<u64, WorkloadCause<'a>>
     ensures { result_ok result ≡ or_default default (span_in range.least range.greatest) (get_member key.now (table_view table.now)) }
 {
     match at(table, key) {
         None => Ok(default),
         Some(value) => match span(value, range) {
             Some(span) => Ok(span),
-            None => Err(Why::NoSuch {
+            None => Err(WorkloadCause::NoSuch {
                 key,
                 value,
                 wanted: Wanted::Time(range),
@@ -75,7 +75,7 @@ pub(crate) fn number_at<'a>(
     key: &'static str,
     default: u64,
     range: NumberRange,
-) -> Result<u64, Why<'a>>
+) -> Result<u64, WorkloadCause<'a>>
     requires { default ≤ range.greatest }
     ensures value { result_ok result ≡ or_default default (number_in range.least range.greatest) (get_member key.now (table_view table.now)) }
     ensures most { IfOk result (λ n. n ≤ range.greatest) }
@@ -84,7 +84,7 @@ pub(crate) fn number_at<'a>(
         None => Ok(default),
         Some(value) => match number(value, range) {
             Some(number) => Ok(number),
-            None => Err(Why::NoSuch {
+            None => Err(WorkloadCause::NoSuch {
                 key,
                 value,
                 wanted: Wanted::Number(range),
@@ -93,8 +93,8 @@ pub(crate) fn number_at<'a>(
     }
 }
 
-/// How often a task does its actions; for ever if the key is absent.
-pub(crate) fn loops(table: &Table) -> Result<Option<u64>, Why<'_>>
+/// Reads how often a task does its actions: for ever if the key is absent.
+pub(crate) fn loops(table: &Table) -> Result<Option<u64>, WorkloadCause<'_>>
     ensures { result_ok result ≡ loops_of (get_member (codes "loops") (table_view table.now)) }
 {
     let range = NumberRange {
@@ -105,7 +105,7 @@ pub(crate) fn loops(table: &Table) -> Result<Option<u64>, Why<'_>>
         None => Ok(None),
         Some(value) => match number(value, range) {
             Some(number) => Ok(Some(number)),
-            None => Err(Why::NoSuch {
+            None => Err(WorkloadCause::NoSuch {
                 key: "loops",
                 value,
                 wanted: Wanted::Number(range),
@@ -127,14 +127,14 @@ fn nice_value(value: &Value) -> Option<i8>
 }
 
 /// The nice value of a task, 0 if the key is absent.
-pub(crate) fn nice(table: &Table) -> Result<i8, Why<'_>>
+pub(crate) fn nice(table: &Table) -> Result<i8, WorkloadCause<'_>>
     ensures { result_ok result ≡ or_default (pos 0) read_nice (get_member (codes "nice") (table_view table.now)) }
 {
     match at(table, "nice") {
         None => Ok(0),
         Some(value) => match nice_value(value) {
             Some(nice) => Ok(nice),
-            None => Err(Why::NoSuch {
+            None => Err(WorkloadCause::NoSuch {
                 key: "nice",
                 value,
                 wanted: Wanted::Nice,
@@ -143,8 +143,8 @@ pub(crate) fn nice(table: &Table) -> Result<i8, Why<'_>>
     }
 }
 
-/// The processors that a task may use: of the machine's at least one.
-pub(crate) fn mask<'a>(table: &'a Table, all: u64, machine: u8) -> Result<u64, Why<'a>>
+/// Reads the processors that a task may use: at least one of them is a processor of the machine.
+pub(crate) fn mask<'a>(table: &'a Table, all: u64, machine: u8) -> Result<u64, WorkloadCause<'a>>
     ensures { result_ok result ≡ or_default all (read_mask all) (get_member (codes "cpus") (table_view table.now)) }
 {
     let value = match at(table, "cpus") {
@@ -152,12 +152,12 @@ pub(crate) fn mask<'a>(table: &'a Table, all: u64, machine: u8) -> Result<u64, W
         Some(value) => value,
     };
     match named(value) {
-        None => Err(Why::NoSuch {
+        None => Err(WorkloadCause::NoSuch {
             key: "cpus",
             value,
             wanted: Wanted::Processors,
         }),
-        Some(mask) if mask & all == 0 => Err(Why::NoProcessor {
+        Some(mask) if mask & all == 0 => Err(WorkloadCause::NoProcessor {
             value,
             processors: machine,
         }),
@@ -174,14 +174,17 @@ fn named(value: &Value) -> Option<u64>
 }
 
 /// The discipline by which processors choose, or the default if the key is absent.
-pub(crate) fn discipline(table: &Table, default: DisciplineName) -> Result<DisciplineName, Why<'_>>
+pub(crate) fn discipline(
+    table: &Table,
+    default: DisciplineName,
+) -> Result<DisciplineName, WorkloadCause<'_>>
     ensures { result_ok result ≡ or_default default discipline_in (get_member (codes "discipline") (table_view table.now)) }
 {
     match at(table, "discipline") {
         None => Ok(default),
         Some(value) => match named_discipline(value) {
             Some(discipline) => Ok(discipline),
-            None => Err(Why::NoSuch {
+            None => Err(WorkloadCause::NoSuch {
                 key: "discipline",
                 value,
                 wanted: Wanted::Discipline,
@@ -199,14 +202,17 @@ fn named_discipline(value: &Value) -> Option<DisciplineName>
 }
 
 /// How many processors there are, or the default if the key is absent.
-pub(crate) fn size(table: &Table, default: ProcessorCount) -> Result<ProcessorCount, Why<'_>>
+pub(crate) fn size(
+    table: &Table,
+    default: ProcessorCount,
+) -> Result<ProcessorCount, WorkloadCause<'_>>
     ensures { result_ok result ≡ or_default default size_in (get_member (codes "processors") (table_view table.now)) }
 {
     match at(table, "processors") {
         None => Ok(default),
         Some(value) => match size_given(value) {
             Some(size) => Ok(size),
-            None => Err(Why::NoSuch {
+            None => Err(WorkloadCause::NoSuch {
                 key: "processors",
                 value,
                 wanted: Wanted::Size,
@@ -230,17 +236,17 @@ fn size_given(value: &Value) -> Option<ProcessorCount>
 }
 
 /// The name of a task.
-pub(crate) fn name(table: &Table) -> Result<&str, Why<'_>>
+pub(crate) fn name(table: &Table) -> Result<&str, WorkloadCause<'_>>
     ensures { option_map (λ s. s.now) (result_ok result) ≡ name_in_members (table_view table.now) }
 {
     let value = match at(table, "name") {
-        None => return Err(Why::Missing("name")),
+        None => return Err(WorkloadCause::Missing("name")),
         Some(value) => value,
     };
     match value.as_str() {
-        Some(name) if name.len() > LONGEST_NAME => Err(Why::LongName),
+        Some(name) if name.len() > LONGEST_NAME => Err(WorkloadCause::LongName),
         Some(name) if !name.is_empty() => Ok(name),
-        _ => Err(Why::NoSuch {
+        _ => Err(WorkloadCause::NoSuch {
             key: "name",
             value,
             wanted: Wanted::Name,

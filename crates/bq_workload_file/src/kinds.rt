@@ -10,7 +10,7 @@ use crate::blame::{DocumentLocation, Trouble};
 use crate::doing::all_actions;
 use crate::fields::{loops, mask, name, nice, number_at, span_at};
 use crate::tables::all_known;
-use crate::why::{NumberRange, Why};
+use crate::workload_cause::{NumberRange, WorkloadCause};
 use bq_disc::limits::{DEFAULT_SLICE, GREATEST_SLICE, LEAST_SLICE, TASKS};
 use bq_words::ProcessorCount;
 use bq_words::processor_sets::bits;
@@ -24,7 +24,7 @@ static TASK: [&str; 10] = [
     "name", "count", "nice", "cpus", "slice", "start", "loops", "run", "sleep", "do",
 ];
 
-/// What is said of the processors of a machine: their bits, and how many they are.
+/// The processors of a machine: their bits, and how many there are.
 #[derive(Clone, Copy)]
 pub(crate) struct Processors {
     pub(crate) all: u64,
@@ -56,7 +56,7 @@ struct Numbers {
 }
 
 /// The numbers of a kind, whose keys all mean something.
-fn all_numbers<'a>(table: &'a Table, processors: Processors) -> Result<Numbers, Why<'a>>
+fn all_numbers<'a>(table: &'a Table, processors: Processors) -> Result<Numbers, WorkloadCause<'a>>
     ensures numbers { IfOk result (λ n. HasNumbers processors.all (table_view table.now) n.count n.nice n.mask n.slice n.start n.loops) }
     ensures known { IfOk result (λ _. first_unknown task_keys (table_view table.now) ≡ None) }
     ensures unknown { (key : List ℕ) → first_unknown task_keys (table_view table.now) ≡ Some key → option_and_then unknown_key (result_err result) ≡ Some key }
@@ -112,7 +112,7 @@ pub(crate) fn kind<'a>(
     if !take_time(actions.as_slice()) {
         return Err(Trouble::At {
             place,
-            why: Why::NoTime,
+            why: WorkloadCause::NoTime,
         });
     }
     Ok(TaskKind {

@@ -6,7 +6,7 @@ ghost use Rattle.bq_workload_file.specs.Lengths.{read_length, drawn_of, ends_of,
 
 use crate::fields::span;
 use crate::tables::only;
-use crate::why::PHASE;
+use crate::workload_cause::PHASE;
 use bq_workload::Length;
 use toml::{Table, Value};
 

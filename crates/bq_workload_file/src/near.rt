@@ -21,8 +21,8 @@ const FOREIGN: [(&str, &str); 11] = [
     ("time", "duration"),
 ];
 
-/// The word that was perhaps meant by an unknown key: the one among these for which the key is often written, else the nearest of
-/// them, if one is near.
+/// Finds the word that was perhaps meant by an unknown key: the one of `words` for which the key is often written, else the nearest
+/// of `words`, if one is near.
 pub(crate) fn meant_word(
     alloc: Global,
     meant: &str,

@@ -8,7 +8,7 @@ ghost use Rattle.bq_workload_file.specs.Workloads.{IsSetup};
 
 use crate::fields::{discipline, number_at, size, span_at};
 use crate::tables::all_known;
-use crate::why::{NumberRange, Why};
+use crate::workload_cause::{NumberRange, WorkloadCause};
 use bq_words::{DisciplineName, ProcessorCount};
 use bq_workload::Setup;
 use bq_workload::limits::LONGEST;
@@ -25,7 +25,7 @@ static MACHINE: [&str; 7] = [
     "seed",
 ];
 
-/// The machine of a text that says nothing of it: one processor under CFS for 100 ms, with a tick each 4 ms.
+/// The machine of a text that says nothing of a machine: one processor under CFS for 100 ms, with a tick each 4 ms.
 const DEFAULT: Setup = Setup {
     discipline: DisciplineName::Cfs,
     size: ProcessorCount::One,
@@ -36,7 +36,7 @@ const DEFAULT: Setup = Setup {
     seed: 1,
 };
 
-/// The machine of a document that says nothing of one.
+/// Gives the machine of a document that says nothing of a machine.
 pub(crate) fn absent() -> Setup
     ensures { IsSetup no_members result }
 {
@@ -44,7 +44,7 @@ pub(crate) fn absent() -> Setup
 }
 
 /// The machine that a table describes.
-pub(crate) fn setup(table: &Table) -> Result<Setup, Why<'_>>
+pub(crate) fn setup(table: &Table) -> Result<Setup, WorkloadCause<'_>>
     ensures read { IfOk result (IsSetup (table_view table.now)) }
     ensures unknown { (key : List ℕ) → first_unknown machine_keys (table_view table.now) ≡ Some key → option_and_then unknown_key (result_err result) ≡ Some key }
 {

@@ -8,7 +8,7 @@ ghost use Rattle.toml.specs.View.{view, table_view};
 ghost use Rattle.bq_workload_file.specs.Keys.{first_unknown, unknown_key};
 ghost use Rattle.bq_workload_file.specs.Tables.{only_of};
 
-use crate::why::Why;
+use crate::workload_cause::WorkloadCause;
 use toml::{Table, Value};
 
 /// The value at a key.
@@ -18,7 +18,7 @@ pub(crate) fn at<'a>(table: &'a Table, key: &str) -> Option<&'a Value>
     table.get(key)
 }
 
-/// The entry of a table that has one.
+/// Finds the entry of a table that has exactly one entry.
 pub(crate) fn only(table: &Table) -> Option<(&str, &Value)>
     ensures { option_map (λ p. (p.0.now, view p.1.now)) result ≡ only_of (table_view table.now) }
 {
@@ -32,12 +32,15 @@ pub(crate) fn only(table: &Table) -> Option<(&str, &Value)>
 }
 
 /// Checks that each key is one of the known words. The error is the first unknown key.
-pub(crate) fn all_known<'a>(table: &'a Table, known: &'static [&'static str]) -> Result<(), Why<'a>>
+pub(crate) fn all_known<'a>(
+    table: &'a Table,
+    known: &'static [&'static str],
+) -> Result<(), WorkloadCause<'a>>
     ensures { option_map unknown_key (result_err result) ≡ option_map (λ key. Some key) (first_unknown (map (λ word. word.now) known.now) (table_view table.now)) }
 {
     'keys: for (key, _value) in table.iter() {
         if !is_word(key.as_str(), known) {
-            return Err(Why::UnknownKey {
+            return Err(WorkloadCause::UnknownKey {
                 key: key.as_str(),
                 known,
             });

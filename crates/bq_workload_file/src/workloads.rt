@@ -16,7 +16,7 @@ use crate::fields::name;
 use crate::kinds::{Processors, kind};
 use crate::setup::{absent, setup};
 use crate::tables::{all_known, at};
-use crate::why::{Wanted, Why};
+use crate::workload_cause::{Wanted, WorkloadCause};
 use bq_disc::limits::TASKS;
 use bq_workload::{Setup, TaskKind, Workload};
 use std::alloc::Global;
@@ -26,7 +26,7 @@ use toml::{Table, Value};
 static DOCUMENT: [&str; 2] = ["machine", "task"];
 
 /// The workload that a text describes, on its machine with these changes. A text is called no TOML only if it is not TOML.
-/// The loop can follow it to its end, unless a machine may not have a changed duration.
+/// The loop can follow the workload to its end, unless a machine may not have a changed duration.
 pub fn read(alloc: Global, text: &str, changes: Changes) -> Result<Workload, WorkloadFault>
     ensures describes { IfOk result (DescribesWorkload text.now changes) }
     ensures sound { IfSome changes.duration (λ d. is_long d ≡ true) → IfOk result (λ w. first_flaw w ≡ None) }
@@ -96,13 +96,13 @@ fn machine(document: &Table) -> Result<Setup, Trouble<'_>>
     }
 }
 
-/// The table that a value is.
-fn table_at<'a>(key: &'static str, value: &'a Value) -> Result<&'a Table, Why<'a>>
+/// Reads a value as a table.
+fn table_at<'a>(key: &'static str, value: &'a Value) -> Result<&'a Table, WorkloadCause<'a>>
     ensures { IfOk result (λ t. as_table (view value.now) ≡ Some (table_view t.now)) }
 {
     match value.as_table() {
         Some(table) => Ok(table),
-        None => Err(Why::NoSuch {
+        None => Err(WorkloadCause::NoSuch {
             key,
             value,
             wanted: Wanted::Table,
@@ -111,26 +111,26 @@ fn table_at<'a>(key: &'static str, value: &'a Value) -> Result<&'a Table, Why<'a
 }
 
 /// The tables of the tasks, at least one.
-fn tables(document: &Table) -> Result<&[Value], Why<'_>>
+fn tables(document: &Table) -> Result<&[Value], WorkloadCause<'_>>
     ensures tasks { IfOk result (λ t. task_tables (table_view document.now) ≡ Some (items_view t.now)) }
     ensures some { IfOk result (λ t. 0 < length t.now) }
 {
     let value = match at(document, "task") {
-        None => return Err(Why::Missing("[[task]]")),
+        None => return Err(WorkloadCause::Missing("[[task]]")),
         Some(value) => value,
     };
     match value.as_array() {
-        None => Err(Why::NoSuch {
+        None => Err(WorkloadCause::NoSuch {
             key: "task",
             value,
             wanted: Wanted::Tables,
         }),
-        Some(tables) if tables.is_empty() => Err(Why::Missing("[[task]]")),
+        Some(tables) if tables.is_empty() => Err(WorkloadCause::Missing("[[task]]")),
         Some(tables) => Ok(tables.as_slice()),
     }
 }
 
-/// The names of the tasks, no two of which are equal. Each is of one task at least, so there are at most 1,024.
+/// The names of the tasks, no two of which are equal. Each name is of one task at least, so there are at most 1,024 names.
 fn names<'a>(alloc: Global, tables: &'a [Value]) -> Result<Vec<String>, Trouble<'a>>
     ensures names { IfOk result (λ v. AreTableNames (items_view tables.now) v.items) }
     ensures others { IfOk result (λ v. AreOthers [] v.items) }
@@ -140,7 +140,7 @@ fn names<'a>(alloc: Global, tables: &'a [Value]) -> Result<Vec<String>, Trouble<
         if index >= usize::from(TASKS) {
             return Err(Trouble::At {
                 place: DocumentLocation::Document,
-                why: Why::TooMany,
+                why: WorkloadCause::TooMany,
             });
         }
         let place = DocumentLocation::Task {
@@ -152,7 +152,7 @@ fn names<'a>(alloc: Global, tables: &'a [Value]) -> Result<Vec<String>, Trouble<
         if let Some(first) = actions::place(names.as_slice(), name) {
             return Err(Trouble::At {
                 place,
-                why: Why::TwoOfName {
+                why: WorkloadCause::TwoOfName {
                     name,
                     first: first + 1,
                 },
@@ -182,7 +182,7 @@ fn kinds<'a>(
             Some(tasks) if tasks <= TASKS => tasks,
             _ => return Err(Trouble::At {
                 place: DocumentLocation::Document,
-                why: Why::TooMany,
+                why: WorkloadCause::TooMany,
             }),
         };
         kinds.push(kind)?;

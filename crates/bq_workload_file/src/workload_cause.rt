@@ -39,7 +39,7 @@ pub(crate) enum Wanted {
     Processors,
     /// A name of a task.
     Name,
-    /// `true`, which is all that `wait` takes.
+    /// `true`, the only value that `wait` takes.
     True,
     Action,
     Actions,
@@ -47,15 +47,15 @@ pub(crate) enum Wanted {
     Tables,
 }
 
-/// What is wrong.
+/// What is wrong with a table or a value.
 #[derive(Clone, Copy)]
-pub(crate) enum Why<'a> {
-    /// Such a table has no such key, but these.
+pub(crate) enum WorkloadCause<'a> {
+    /// The table has an unknown key. Such a table takes the keys `known`.
     UnknownKey {
         key: &'a str,
         known: &'static [&'static str],
     },
-    /// The key has to be there.
+    /// A key is missing that has to be there.
     Missing(&'static str),
     /// The value is not what its key takes.
     NoSuch {
@@ -63,60 +63,64 @@ pub(crate) enum Why<'a> {
         value: &'a Value,
         wanted: Wanted,
     },
-    /// An item of a list is not what it has to be.
+    /// An item of a list is not what the list takes.
     NoItem {
         value: &'a Value,
         wanted: Wanted,
     },
-    /// None of these tasks has the name.
+    /// No task has the name `name`. The tasks have the names `names`.
     UnknownTask {
         name: &'a str,
         names: &'a [String],
     },
-    /// A name has more bytes than one may have.
+    /// A name has more bytes than a name may have.
     LongName,
-    /// An earlier table has the name: the one of this number.
+    /// An earlier table has the same name: the table of the number `first`.
     TwoOfName {
         name: &'a str,
         first: usize,
     },
-    /// A `do` beside the keys that are short for one.
+    /// A `do` stands beside the keys that are short for a `do`.
     TwoForms,
     /// Nothing in a `do` takes time.
     NoTime,
-    /// The value names none of the processors of the machine, which has `processors` of them.
+    /// The value names no processor of the machine, which has this many processors.
     NoProcessor {
         value: &'a Value,
         processors: u8,
     },
-    /// All kinds together have more tasks than there may be.
+    /// All kinds together have more tasks than a machine may have.
     TooMany,
 }
 
-impl fmt::Display for Why<'_> {
+impl fmt::Display for WorkloadCause<'_> {
     fn fmt<W: fmt::Write>(&self, f: &mut fmt::Formatter<W>) -> fmt::Result {
         match self {
-            Why::UnknownKey { key, known: _ } => write!(f, "unknown key {}", Quoted(key)),
-            Why::Missing(key) => write!(f, "{key} is missing"),
-            Why::NoSuch { key, value, wanted } => {
+            WorkloadCause::UnknownKey { key, known: _ } => write!(f, "unknown key {}", Quoted(key)),
+            WorkloadCause::Missing(key) => write!(f, "{key} is missing"),
+            WorkloadCause::NoSuch { key, value, wanted } => {
                 write!(f, "{key}: ")?;
                 misfit(f, value, wanted)
             }
-            Why::NoItem { value, wanted } => misfit(f, value, wanted),
-            Why::UnknownTask { name, names: _ } => {
+            WorkloadCause::NoItem { value, wanted } => misfit(f, value, wanted),
+            WorkloadCause::UnknownTask { name, names: _ } => {
                 write!(f, "wake: no task has the name {}", Quoted(name))
             }
-            Why::LongName => write!(f, "name: it has more than {LONGEST_NAME} bytes"),
-            Why::TwoOfName { name, first } => {
+            WorkloadCause::LongName => write!(f, "name: it has more than {LONGEST_NAME} bytes"),
+            WorkloadCause::TwoOfName { name, first } => {
                 write!(
                     f,
                     "name: {} is the name of [[task]] {first} too",
                     Quoted(name)
                 )
             }
-            Why::TwoForms => f.write_str("do stands beside run or sleep, which are short for one"),
-            Why::NoTime => f.write_str("do: nothing in it takes time; let it run or sleep"),
-            Why::NoProcessor { value, processors } => {
+            WorkloadCause::TwoForms => f.write_str(
+                "do stands beside run or sleep, which are short for one",
+            ),
+            WorkloadCause::NoTime => f.write_str(
+                "do: nothing in it takes time; let it run or sleep",
+            ),
+            WorkloadCause::NoProcessor { value, processors } => {
                 write!(f, "cpus: ")?;
                 shown(f, value)?;
                 write!(
@@ -125,7 +129,7 @@ impl fmt::Display for Why<'_> {
                     processors.saturating_sub(1)
                 )
             }
-            Why::TooMany => write!(
+            WorkloadCause::TooMany => write!(
                 f,
                 "there are more than {TASKS} tasks in all; a machine has room for no more"
             ),
@@ -133,7 +137,7 @@ impl fmt::Display for Why<'_> {
     }
 }
 
-/// Says that a value is not what is wanted there.
+/// Says that a value is not what `wanted` describes.
 fn misfit<W: fmt::Write>(f: &mut fmt::Formatter<W>, value: &Value, wanted: &Wanted) -> fmt::Result {
     if let (Wanted::Length, Value::Table(table)) = (wanted, value) {
         return no_draw(f, table);
@@ -182,7 +186,8 @@ fn no_draw<W: fmt::Write>(f: &mut fmt::Formatter<W>, table: &Table) -> fmt::Resu
     }
 }
 
-/// Says why a value is no least and greatest of a length: it is no pair, an end is not a duration, or they are not in order.
+/// Says why a value is no least and greatest of a length: the value is no pair, an end is not a duration, or the ends are not in
+/// order.
 fn no_ends<W: fmt::Write>(f: &mut fmt::Formatter<W>, ends: &Value) -> fmt::Result {
     f.write_str("uniform: ")?;
     let Some((least, greatest)) = pair(ends) else {
@@ -215,7 +220,7 @@ fn pair(value: &Value) -> Option<(&Value, &Value)> {
     }
 }
 
-/// Says that a value is not a duration, or none of a range.
+/// Says that a value is not a duration, or not a duration in a range.
 fn no_time<W: fmt::Write>(
     f: &mut fmt::Formatter<W>,
     value: &Value,
@@ -238,7 +243,7 @@ fn no_time<W: fmt::Write>(
     }
 }
 
-/// Says what a value is not, if the words do not depend on it.
+/// Says what a value is not, if the words do not depend on the value.
 fn described(wanted: &Wanted) -> &'static str {
     match wanted {
         Wanted::Nice => with_nice_values!("is not a nice value (a whole number from ", ")"),
