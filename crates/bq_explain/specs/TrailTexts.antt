@@ -70,15 +70,15 @@ met_text shapes None = codes "nothing is known of it"
 met_text shapes (Some k) = codes "it is " ++ known_text shapes k
 
 -- the line of two ways that meet
-abbrev pub meeting_text : List MapShape → JoinPoint → List ℕ
-meeting_text shapes meeting =
-    codes "  r" ++ (decimal meeting.register ++ (codes " is " ++ (coming_text shapes meeting.first ++ (codes ", and " ++ (coming_text shapes meeting.second
-    ++ (codes "; where they meet, at slot " ++ (decimal meeting.slot ++ (codes ", " ++ (met_text shapes meeting.known ++ codes "\n")))))))))
+abbrev pub join_text : List MapShape → JoinPoint → List ℕ
+join_text shapes join =
+    codes "  r" ++ (decimal join.register ++ (codes " is " ++ (coming_text shapes join.first ++ (codes ", and " ++ (coming_text shapes join.second
+    ++ (codes "; where they meet, at slot " ++ (decimal join.slot ++ (codes ", " ++ (met_text shapes join.known ++ codes "\n")))))))))
 
 -- a line for each instruction that made a register, in order, for each register that is unset on some way, and for each place where ways meet
 abbrev pub trail_text : List MapShape → Trail → List ℕ
 trail_text shapes trail =
-    flat_map (made_text shapes) trail.made.items ++ (unset_below 11 trail.unset ++ flat_map (meeting_text shapes) trail.meetings.items)
+    flat_map (made_text shapes) trail.made.items ++ (unset_below 11 trail.unset ++ flat_map (join_text shapes) trail.joins.items)
 
 -- the text says where the registers come from, and then on one line what helps
 abbrev pub DescribesTrail : List MapShape → Trail → List ℕ → Type 0

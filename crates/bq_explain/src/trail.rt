@@ -17,7 +17,7 @@ use bq_verify::KnownStates;
 use std::alloc::{AllocError, Global};
 
 /// The most places where ways meet that are named.
-const MEETINGS: usize = 3;
+const JOINS: usize = 3;
 
 /// For at most this many calls it is looked up what is known before them.
 const CALLS: usize = 4;
@@ -32,7 +32,7 @@ pub struct Trail {
     /// The registers among them that a call leaves unset on some way.
     pub left: Clobbered,
     /// The places where ways meet that bring different words into one of the registers, or into what a maker reads; three at most.
-    pub meetings: Vec<JoinPoint>,
+    pub joins: Vec<JoinPoint>,
 }
 
 /// Registers that calls leave unset.
@@ -80,7 +80,7 @@ pub(crate) fn no_trail(alloc: Global) -> Trail
             called: [false; REGISTERS],
             held: [false; REGISTERS],
         },
-        meetings: Vec::new(alloc),
+        joins: Vec::new(alloc),
     }
 }
 
@@ -107,12 +107,12 @@ pub(crate) fn trail_of(
         registers: *asked,
         makers: 0,
     };
-    let meetings = meetings(alloc, policy, slots, states, &ways, asked, made.as_slice())?;
+    let joins = joins(alloc, policy, slots, states, &ways, asked, made.as_slice())?;
     Ok(Trail {
         made,
         unset,
         left,
-        meetings,
+        joins,
     })
 }
 
@@ -250,7 +250,7 @@ fn is_call(slots: &[Option<Insn>], register: u8, slot: usize) -> bool {
 }
 
 /// Where ways meet that bring different words: into the registers that are asked at the slot, and into what the makers read.
-fn meetings(
+fn joins(
     alloc: Global,
     policy: &PolicySource,
     slots: &[Option<Insn>],
@@ -261,17 +261,17 @@ fn meetings(
 ) -> Result<Vec<JoinPoint>, AllocError>
     requires walkable { CanBeWalked slots.now }
 {
-    let mut meetings = Vec::new(alloc);
-    push_meetings(alloc, policy, slots, states, ways, asked, &mut meetings)?;
+    let mut joins = Vec::new(alloc);
+    push_joins(alloc, policy, slots, states, ways, asked, &mut joins)?;
     for one in made {
         let operands = Asked {
             slot: one.place.slot,
             registers: read_registers(one.place.insn),
             makers: 2,
         };
-        push_meetings(alloc, policy, slots, states, ways, operands, &mut meetings)?;
+        push_joins(alloc, policy, slots, states, ways, operands, &mut joins)?;
     }
-    Ok(meetings)
+    Ok(joins)
 }
 
 /// Registers at a slot of which it is asked where their ways meet. Each has at least `makers` makers.
@@ -283,14 +283,14 @@ struct Asked {
 }
 
 /// Where ways meet that bring different words into one of the registers, as long as there is room.
-fn push_meetings(
+fn push_joins(
     alloc: Global,
     policy: &PolicySource,
     slots: &[Option<Insn>],
     states: &KnownStates,
     ways: &Ways,
     asked: Asked,
-    meetings: &mut Vec<JoinPoint>,
+    joins: &mut Vec<JoinPoint>,
 ) -> Result<(), AllocError>
     requires walkable { CanBeWalked slots.now }
 {
@@ -298,27 +298,27 @@ fn push_meetings(
         return Ok(());
     }
     for register in 0..REGISTERS as u8 {
-        if asked.registers[usize::from(register)] && meetings.len() < MEETINGS {
+        if asked.registers[usize::from(register)] && joins.len() < JOINS {
             let made = makers(alloc, slots, register, asked.slot)?;
             if made.len() >= asked.makers {
-                let met = join_point_of(alloc, policy, slots, states, ways, register, asked.slot)?;
-                push_new(met, meetings)?;
+                let join = join_point_of(alloc, policy, slots, states, ways, register, asked.slot)?;
+                push_new(join, joins)?;
             }
         }
     }
     Ok(())
 }
 
-/// The meeting, if it is one, and none of these yet.
-fn push_new(met: Option<JoinPoint>, meetings: &mut Vec<JoinPoint>) -> Result<(), AllocError> {
-    let Some(met) = met else {
+/// Adds the join point to the list, unless the list has one of the same slot and register.
+fn push_new(join: Option<JoinPoint>, joins: &mut Vec<JoinPoint>) -> Result<(), AllocError> {
+    let Some(join) = join else {
         return Ok(());
     };
-    for other in meetings.as_slice() {
-        if other.slot == met.slot && other.register == met.register {
+    for other in joins.as_slice() {
+        if other.slot == join.slot && other.register == join.register {
             return Ok(());
         }
     }
-    meetings.push(met)?;
+    joins.push(join)?;
     Ok(())
 }

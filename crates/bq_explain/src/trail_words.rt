@@ -1,6 +1,6 @@
 //! Where registers come from, in words.
 ghost use Rattle.std.specs.Prelude.{◌≡◌, IfOk, flat_map, string_bytes};
-ghost use Rattle.bq_explain.specs.TrailTexts.{coming_text, made_text, meeting_text, met_text, outcome_text, trail_text, unset_below, unset_text};
+ghost use Rattle.bq_explain.specs.TrailTexts.{coming_text, join_text, made_text, met_text, outcome_text, trail_text, unset_below, unset_text};
 
 use crate::join_point::{Coming, JoinPoint};
 use crate::program_point::place_text;
@@ -23,8 +23,8 @@ pub(crate) fn trail_text(
 {
     let made = made_lines(alloc, shapes, trail.made.as_slice())?;
     let unset = unset_lines(alloc, &trail.unset)?;
-    let meetings = meeting_lines(alloc, shapes, trail.meetings.as_slice())?;
-    format!(in alloc; "{made}{unset}{meetings}")
+    let joins = join_lines(alloc, shapes, trail.joins.as_slice())?;
+    format!(in alloc; "{made}{unset}{joins}")
 }
 
 /// The instructions that made registers, a line for each.
@@ -64,16 +64,12 @@ fn unset_text(alloc: Global, register: usize, is_unset: bool) -> Result<String, 
 }
 
 /// The places where ways meet, a line for each.
-fn meeting_lines(
-    alloc: Global,
-    shapes: &[MapShape],
-    meetings: &[JoinPoint],
-) -> Result<String, AllocError>
-    ensures { IfOk result (λ text. string_bytes text ≡ flat_map (meeting_text shapes.now) meetings.now) }
+fn join_lines(alloc: Global, shapes: &[MapShape], joins: &[JoinPoint]) -> Result<String, AllocError>
+    ensures { IfOk result (λ text. string_bytes text ≡ flat_map (join_text shapes.now) joins.now) }
 {
     let mut text = String::new(alloc);
-    for meeting in meetings {
-        let line = meeting_text(alloc, shapes, meeting)?;
+    for join in joins {
+        let line = join_text(alloc, shapes, join)?;
         text.push_str(line.as_str())?;
     }
     Ok(text)
@@ -105,18 +101,14 @@ fn outcome_text(alloc: Global, shapes: &[MapShape], made: &Made) -> Result<Strin
 }
 
 /// Says which two ways meet where, and what the register is on each.
-fn meeting_text(
-    alloc: Global,
-    shapes: &[MapShape],
-    meeting: &JoinPoint,
-) -> Result<String, AllocError>
-    ensures { IfOk result (λ text. string_bytes text ≡ meeting_text shapes.now meeting.now) }
+fn join_text(alloc: Global, shapes: &[MapShape], join: &JoinPoint) -> Result<String, AllocError>
+    ensures { IfOk result (λ text. string_bytes text ≡ join_text shapes.now join.now) }
 {
-    let register = meeting.register;
-    let slot = meeting.slot;
-    let first = coming_text(alloc, shapes, &meeting.first)?;
-    let second = coming_text(alloc, shapes, &meeting.second)?;
-    let met = met_text(alloc, shapes, meeting.known)?;
+    let register = join.register;
+    let slot = join.slot;
+    let first = coming_text(alloc, shapes, &join.first)?;
+    let second = coming_text(alloc, shapes, &join.second)?;
+    let met = met_text(alloc, shapes, join.known)?;
     format!(in alloc;
         "  r{register} is {first}, and {second}; where they meet, at slot {slot}, {met}\n"
     )

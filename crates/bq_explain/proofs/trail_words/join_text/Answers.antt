@@ -2,18 +2,18 @@ use Rattle.std.proofs.Common.{◌≡◌, ◌∙◌, ◌++◌, refl}
 use Rattle.std.specs.Prelude.{codes, string_bytes}
 use Rattle.std.specs.Fmt.{decimal}
 use Rattle.std.proofs.lemmas.Result.{IfOk-weaker}
-use Rattle.bq_explain.specs.TrailTexts.{meeting_text}
-use Rattle.bq_explain.proofs.trail_words.meeting_text.Goals as goal
+use Rattle.bq_explain.specs.TrailTexts.{join_text}
+use Rattle.bq_explain.proofs.trail_words.join_text.Goals as goal
 
 pub returns : goal.returns
 returns c =
-    let meeting = c.args.meeting.now in
+    let join = c.args.join.now in
     let where_met =
-    codes "; where they meet, at slot " ++ (decimal meeting.slot ++ (codes ", " ++ (string_bytes c.in_ok-met.met ++ codes "\n"))) in
+    codes "; where they meet, at slot " ++ (decimal join.slot ++ (codes ", " ++ (string_bytes c.in_ok-met.met ++ codes "\n"))) in
     IfOk-weaker c.format.result (λ text.
     string_bytes text
     ≡ codes "  r"
-    ++ (decimal meeting.register
+    ++ (decimal join.register
     ++ (codes " is " ++ (string_bytes c.in_ok-first.first ++ (codes ", and " ++ (string_bytes c.in_ok-second.second ++ where_met))))))
-    (λ text. string_bytes text ≡ meeting_text c.args.shapes.now meeting)
+    (λ text. string_bytes text ≡ join_text c.args.shapes.now join)
     (λ text is. is ∙ rw (c.in_ok-first.ensures, c.in_ok-second.ensures, c.in_ok-met.ensures) refl) c.format.ensures.ok
