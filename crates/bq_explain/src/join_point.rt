@@ -29,14 +29,14 @@ pub struct JoinPoint {
     /// What is known of the register there.
     pub known: Option<AbstractValue>,
     /// The one way.
-    pub first: Coming,
+    pub first: IncomingWay,
     /// The other.
-    pub second: Coming,
+    pub second: IncomingWay,
 }
 
 /// A way into a slot: the instruction that it comes from, and what a register is known to be after that instruction.
 #[derive(Clone, Copy)]
-pub struct Coming {
+pub struct IncomingWay {
     pub place: ProgramPoint,
     pub known: AbstractValue,
 }
@@ -61,10 +61,10 @@ pub(crate) fn join_point_of(
         let is_on_way = here == slot
             || (is_marked(reaching.as_slice(), here) && spares(slots, register, here));
         if tried < TRIED && is_on_way {
-            let from = before(alloc, slots, here)?;
+            let from = predecessors(alloc, slots, here)?;
             if from.len() > 1 {
                 tried = tried.saturating_add(1);
-                let comings = comings(
+                let incoming_ways = incoming_ways(
                     alloc,
                     policy,
                     slots,
@@ -73,9 +73,12 @@ pub(crate) fn join_point_of(
                     here,
                     register,
                 )?;
-                if let Some(both) = differing(policy.form.shapes.as_slice(), comings.as_slice()) {
+                if let Some(pair) = differing(
+                    policy.form.shapes.as_slice(),
+                    incoming_ways.as_slice(),
+                ) {
                     let known = known_at(states, here, register);
-                    return Ok(Some(both.join_at(register, here, known)));
+                    return Ok(Some(pair.join_at(register, here, known)));
                 }
             }
         }
@@ -84,7 +87,7 @@ pub(crate) fn join_point_of(
 }
 
 /// The slots from which control may go to that slot.
-fn before(alloc: Global, slots: &[Option<Insn>], to: usize) -> Result<Vec<usize>, AllocError>
+fn predecessors(alloc: Global, slots: &[Option<Insn>], to: usize) -> Result<Vec<usize>, AllocError>
     requires short { length slots.now ≤ SLOTS }
     requires sound { IsGraphSound slots.now }
 {
@@ -119,7 +122,7 @@ fn is_to(target: Option<usize>, to: usize) -> bool {
 }
 
 /// What is known of the register on each way into the slot that a run may take, if something is.
-fn comings(
+fn incoming_ways(
     alloc: Global,
     policy: &PolicySource,
     slots: &[Option<Insn>],
@@ -127,15 +130,15 @@ fn comings(
     from: &[usize],
     to: usize,
     register: u8,
-) -> Result<Vec<Coming>, AllocError> {
-    let mut comings = Vec::new(alloc);
+) -> Result<Vec<IncomingWay>, AllocError> {
+    let mut incoming_ways = Vec::new(alloc);
     for slot in from {
         let known = known_behind(&policy.form, slots, states, *slot, to, register);
         if let (Some(place), Some(known)) = (place_at(policy, slots, *slot), known) {
-            comings.push(Coming { place, known })?;
+            incoming_ways.push(IncomingWay { place, known })?;
         }
     }
-    Ok(comings)
+    Ok(incoming_ways)
 }
 
 /// What is known of the register on the step from the one slot to the other.
@@ -157,13 +160,13 @@ pub(crate) fn known_at(states: &KnownStates, slot: usize, register: u8) -> Optio
 }
 
 /// The first of the ways, and another on which the register is another word.
-fn differing(shapes: &[MapShape], comings: &[Coming]) -> Option<Both> {
-    let [first, rest @ ..] = comings else {
+fn differing(shapes: &[MapShape], incoming_ways: &[IncomingWay]) -> Option<WayPair> {
+    let [first, rest @ ..] = incoming_ways else {
         return None;
     };
     for second in rest {
         if differ(shapes, first.known, second.known) {
-            return Some(Both {
+            return Some(WayPair {
                 first: *first,
                 second: *second,
             });
@@ -174,12 +177,12 @@ fn differing(shapes: &[MapShape], comings: &[Coming]) -> Option<Both> {
 
 /// Two ways.
 #[derive(Clone, Copy)]
-struct Both {
-    first: Coming,
-    second: Coming,
+struct WayPair {
+    first: IncomingWay,
+    second: IncomingWay,
 }
 
-impl Both {
+impl WayPair {
     /// The point where the two ways join at the slot, after which this is known of the register.
     fn join_at(self, register: u8, slot: usize, known: Option<AbstractValue>) -> JoinPoint {
         JoinPoint {

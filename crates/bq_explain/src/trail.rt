@@ -26,7 +26,7 @@ const CALLS: usize = 4;
 #[derive(Drop)]
 pub struct Trail {
     /// The instructions that made them, the nearest first, and then those that made what these read; six at most.
-    pub made: Vec<Made>,
+    pub made: Vec<RegisterMaker>,
     /// The registers among them that no instruction sets on some way from the start.
     pub unset: Registers,
     /// The registers among them that a call leaves unset on some way.
@@ -46,14 +46,14 @@ pub struct Clobbered {
 
 /// An instruction that made a register.
 #[derive(Clone, Copy)]
-pub struct Made {
+pub struct RegisterMaker {
     pub place: ProgramPoint,
     pub register: u8,
     /// What is known of the register after the instruction; None if a call leaves it unset.
     pub known: Option<AbstractValue>,
 }
 
-impl Made {
+impl RegisterMaker {
     /// Whether a call left the register unset.
     pub fn is_unset(&self) -> bool
         ensures { result ≡ leaves_unset self.now.place.insn self.now.register }
@@ -102,7 +102,7 @@ pub(crate) fn trail_of(
     let made = made_by(alloc, policy, slots, states, makers.as_slice())?;
     let unset = unset_from_start(alloc, slots, &ways, slot, asked)?;
     let left = left_by_calls(alloc, slots, states, &ways, slot, asked)?;
-    let asked = Asked {
+    let asked = AskedRegisters {
         slot,
         registers: *asked,
         makers: 0,
@@ -123,7 +123,7 @@ fn made_by(
     slots: &[Option<Insn>],
     states: &KnownStates,
     makers: &[Maker],
-) -> Result<Vec<Made>, AllocError>
+) -> Result<Vec<RegisterMaker>, AllocError>
     ensures { IfOk result (λ made. AreOf slots.now makers.now made.items) }
 {
     let mut made = Vec::new(alloc);
@@ -141,7 +141,7 @@ fn made_of(
     slots: &[Option<Insn>],
     states: &KnownStates,
     maker: Maker,
-) -> Option<Made>
+) -> Option<RegisterMaker>
     ensures { IfSome result (IsMadeBy slots.now maker) }
 {
     let place = place_at(policy, slots, maker.slot)?;
@@ -154,7 +154,7 @@ fn made_of(
         next,
         maker.register,
     );
-    Some(Made {
+    Some(RegisterMaker {
         place,
         register: maker.register,
         known,
@@ -256,15 +256,15 @@ fn joins(
     slots: &[Option<Insn>],
     states: &KnownStates,
     ways: &Ways,
-    asked: Asked,
-    made: &[Made],
+    asked: AskedRegisters,
+    made: &[RegisterMaker],
 ) -> Result<Vec<JoinPoint>, AllocError>
     requires walkable { CanBeWalked slots.now }
 {
     let mut joins = Vec::new(alloc);
     push_joins(alloc, policy, slots, states, ways, asked, &mut joins)?;
     for one in made {
-        let operands = Asked {
+        let operands = AskedRegisters {
             slot: one.place.slot,
             registers: read_registers(one.place.insn),
             makers: 2,
@@ -276,7 +276,7 @@ fn joins(
 
 /// Registers at a slot of which it is asked where their ways meet. Each has at least `makers` makers.
 #[derive(Clone, Copy)]
-struct Asked {
+struct AskedRegisters {
     slot: usize,
     registers: Registers,
     makers: usize,
@@ -289,7 +289,7 @@ fn push_joins(
     slots: &[Option<Insn>],
     states: &KnownStates,
     ways: &Ways,
-    asked: Asked,
+    asked: AskedRegisters,
     joins: &mut Vec<JoinPoint>,
 ) -> Result<(), AllocError>
     requires walkable { CanBeWalked slots.now }

@@ -1,10 +1,10 @@
 //! Where registers come from, in words.
 ghost use Rattle.std.specs.Prelude.{◌≡◌, IfOk, flat_map, string_bytes};
-ghost use Rattle.bq_explain.specs.TrailTexts.{coming_text, join_text, made_text, met_text, outcome_text, trail_text, unset_below, unset_text};
+ghost use Rattle.bq_explain.specs.TrailTexts.{join_text, made_text, met_text, outcome_text, trail_text, unset_below, unset_text, way_text};
 
-use crate::join_point::{Coming, JoinPoint};
+use crate::join_point::{IncomingWay, JoinPoint};
 use crate::program_point::place_text;
-use crate::trail::{Made, Trail};
+use crate::trail::{RegisterMaker, Trail};
 use bq_bpf::MapShape;
 use bq_insn::REGISTERS;
 use bq_needs::{Registers, known_text};
@@ -28,7 +28,11 @@ pub(crate) fn trail_text(
 }
 
 /// The instructions that made registers, a line for each.
-fn made_lines(alloc: Global, shapes: &[MapShape], makers: &[Made]) -> Result<String, AllocError>
+fn made_lines(
+    alloc: Global,
+    shapes: &[MapShape],
+    makers: &[RegisterMaker],
+) -> Result<String, AllocError>
     ensures { IfOk result (λ text. string_bytes text ≡ flat_map (made_text shapes.now) makers.now) }
 {
     let mut text = String::new(alloc);
@@ -76,7 +80,7 @@ fn join_lines(alloc: Global, shapes: &[MapShape], joins: &[JoinPoint]) -> Result
 }
 
 /// An instruction that made a register, and what it made of it.
-fn made_text(alloc: Global, shapes: &[MapShape], made: &Made) -> Result<String, AllocError>
+fn made_text(alloc: Global, shapes: &[MapShape], made: &RegisterMaker) -> Result<String, AllocError>
     ensures { IfOk result (λ text. string_bytes text ≡ made_text shapes.now made.now) }
 {
     let place = place_text(alloc, &made.place)?;
@@ -86,7 +90,11 @@ fn made_text(alloc: Global, shapes: &[MapShape], made: &Made) -> Result<String, 
 }
 
 /// Says what the register is after the instruction.
-fn outcome_text(alloc: Global, shapes: &[MapShape], made: &Made) -> Result<String, AllocError>
+fn outcome_text(
+    alloc: Global,
+    shapes: &[MapShape],
+    made: &RegisterMaker,
+) -> Result<String, AllocError>
     ensures { IfOk result (λ text. string_bytes text ≡ outcome_text shapes.now made.now.place.insn made.now.register made.now.known) }
 {
     let register = made.register;
@@ -106,8 +114,8 @@ fn join_text(alloc: Global, shapes: &[MapShape], join: &JoinPoint) -> Result<Str
 {
     let register = join.register;
     let slot = join.slot;
-    let first = coming_text(alloc, shapes, &join.first)?;
-    let second = coming_text(alloc, shapes, &join.second)?;
+    let first = way_text(alloc, shapes, &join.first)?;
+    let second = way_text(alloc, shapes, &join.second)?;
     let met = met_text(alloc, shapes, join.known)?;
     format!(in alloc;
         "  r{register} is {first}, and {second}; where they meet, at slot {slot}, {met}\n"
@@ -115,11 +123,11 @@ fn join_text(alloc: Global, shapes: &[MapShape], join: &JoinPoint) -> Result<Str
 }
 
 /// What the register is on a way.
-fn coming_text(alloc: Global, shapes: &[MapShape], coming: &Coming) -> Result<String, AllocError>
-    ensures { IfOk result (λ text. string_bytes text ≡ coming_text shapes.now coming.now) }
+fn way_text(alloc: Global, shapes: &[MapShape], way: &IncomingWay) -> Result<String, AllocError>
+    ensures { IfOk result (λ text. string_bytes text ≡ way_text shapes.now way.now) }
 {
-    let known = known_text(alloc, shapes, &coming.known)?;
-    let place = place_text(alloc, &coming.place)?;
+    let known = known_text(alloc, shapes, &way.known)?;
+    let place = place_text(alloc, &way.place)?;
     format!(in alloc; "{known} on the path over {place}")
 }
 
