@@ -37,5 +37,5 @@ pub use program_point::{ProgramPoint, index_at};
 pub use refusal::{ExplainedRefusal, Finding};
 pub use summary::{Summary, maps_text};
 pub use text::{explanation_text, need_words};
-pub use trail::{Clobbered, RegisterMaker, Trail};
+pub use trail::{ClobberedRegisters, RegisterMaker, Trail};
 pub use verdict::{Verdict, judge, verdict_line};

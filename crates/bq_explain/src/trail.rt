@@ -30,18 +30,18 @@ pub struct Trail {
     /// The registers among them that no instruction sets on some way from the start.
     pub unset: Registers,
     /// The registers among them that a call leaves unset on some way.
-    pub left: Clobbered,
+    pub clobbered: ClobberedRegisters,
     /// The places where ways meet that bring different words into one of the registers, or into what a maker reads; three at most.
     pub joins: Vec<JoinPoint>,
 }
 
 /// Registers that calls leave unset.
 #[derive(Clone, Copy)]
-pub struct Clobbered {
-    /// A call leaves them unset on some way.
-    pub called: Registers,
-    /// Those of `called` of which something is known before such a call.
-    pub held: Registers,
+pub struct ClobberedRegisters {
+    /// All of them: a call leaves each unset on some way.
+    pub all: Registers,
+    /// The registers among them of which something is known before such a call.
+    pub known_before: Registers,
 }
 
 /// An instruction that made a register.
@@ -76,9 +76,9 @@ pub(crate) fn no_trail(alloc: Global) -> Trail
     Trail {
         made: Vec::new(alloc),
         unset: [false; REGISTERS],
-        left: Clobbered {
-            called: [false; REGISTERS],
-            held: [false; REGISTERS],
+        clobbered: ClobberedRegisters {
+            all: [false; REGISTERS],
+            known_before: [false; REGISTERS],
         },
         joins: Vec::new(alloc),
     }
@@ -101,7 +101,7 @@ pub(crate) fn trail_of(
     let makers = trail(alloc, slots, &ways, slot, asked)?;
     let made = made_by(alloc, policy, slots, states, makers.as_slice())?;
     let unset = unset_from_start(alloc, slots, &ways, slot, asked)?;
-    let left = left_by_calls(alloc, slots, states, &ways, slot, asked)?;
+    let clobbered = clobbered_by_calls(alloc, slots, states, &ways, slot, asked)?;
     let asked = AskedRegisters {
         slot,
         registers: *asked,
@@ -111,7 +111,7 @@ pub(crate) fn trail_of(
     Ok(Trail {
         made,
         unset,
-        left,
+        clobbered,
         joins,
     })
 }
@@ -182,30 +182,30 @@ fn unset_from_start(
 }
 
 /// The registers that a call leaves unset on some way to the slot.
-fn left_by_calls(
+fn clobbered_by_calls(
     alloc: Global,
     slots: &[Option<Insn>],
     states: &KnownStates,
     ways: &Ways,
     slot: usize,
     asked: &Registers,
-) -> Result<Clobbered, AllocError>
+) -> Result<ClobberedRegisters, AllocError>
     requires walkable { CanBeWalked slots.now }
     requires inside { slot < length slots.now }
 {
-    let mut left = Clobbered {
-        called: [false; REGISTERS],
-        held: [false; REGISTERS],
+    let mut clobbered = ClobberedRegisters {
+        all: [false; REGISTERS],
+        known_before: [false; REGISTERS],
     };
     for register in 0..REGISTERS as u8 {
         let at = usize::from(register);
         if asked[at] {
             let calls = calls_before(alloc, slots, ways, register, slot)?;
-            left.called[at] = !calls.is_empty();
-            left.held[at] = is_held(states, calls.as_slice(), register);
+            clobbered.all[at] = !calls.is_empty();
+            clobbered.known_before[at] = is_known_before(states, calls.as_slice(), register);
         }
     }
-    Ok(left)
+    Ok(clobbered)
 }
 
 /// The calls from which a run may come to the slot and that leave the register unset there.
@@ -232,7 +232,7 @@ fn calls_before(
 }
 
 /// Whether something is known of the register before one of the nearest calls.
-fn is_held(states: &KnownStates, calls: &[usize], register: u8) -> bool {
+fn is_known_before(states: &KnownStates, calls: &[usize], register: u8) -> bool {
     for call in calls.iter().take(CALLS) {
         if known_at(states, *call, register).is_some() {
             return true;
