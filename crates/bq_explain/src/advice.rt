@@ -93,11 +93,11 @@ pub enum Advice {
 /// The registers of which nothing is known, by why.
 #[derive(Clone, Copy)]
 pub struct Missing {
-    /// A call leaves them unset on some way, and something is known of them before it.
+    /// The registers that a call leaves unset on some way, if something is known of the register before the call.
     pub known_before_call: Registers,
-    /// A call leaves them unset on some way, and nothing is known of them before it.
+    /// The registers that a call leaves unset on some way, if nothing is known of the register before the call.
     pub unknown_before_call: Registers,
-    /// No instruction sets them on some way from the start.
+    /// The registers that no instruction sets on some way from the start.
     pub unset: Registers,
     /// The registers that hold words of different kinds after ways meet.
     pub mixed: Registers,
@@ -163,7 +163,7 @@ fn answer_advice(answer: AbstractValue) -> Advice {
     }
 }
 
-/// That register.
+/// The set of that register alone.
 pub(crate) fn only(register: u8) -> Registers
     ensures { (r : ℕ) → slice_index_or result r false ≡ true → (register == r) ≡ true }
 {

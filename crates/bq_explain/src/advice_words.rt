@@ -196,7 +196,7 @@ fn missing_text(alloc: Global, missing: &Missing) -> Result<String, AllocError> 
     Ok(text)
 }
 
-/// Says what helps if nothing is known of this register; empty if it is not one of them.
+/// Says what helps if nothing is known of the register; empty if the register is not missing.
 fn lack_text(alloc: Global, missing: &Missing, register: usize) -> Result<String, AllocError> {
     if register >= REGISTERS {
         return Ok(String::new(alloc));

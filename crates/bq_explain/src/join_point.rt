@@ -24,13 +24,13 @@ const TRIED: usize = 4;
 #[derive(Clone, Copy)]
 pub struct JoinPoint {
     pub register: u8,
-    /// The slot where they meet.
+    /// The slot where the two ways meet.
     pub slot: usize,
-    /// What is known of the register there.
+    /// What is known of the register at that slot.
     pub known: Option<AbstractValue>,
-    /// The one way.
+    /// The first of the two ways.
     pub first: IncomingWay,
-    /// The other.
+    /// The second of the two ways.
     pub second: IncomingWay,
 }
 
@@ -41,7 +41,8 @@ pub struct IncomingWay {
     pub known: AbstractValue,
 }
 
-/// The last slot on the ways to this one at which the register comes with different words; no later instruction writes it.
+/// Finds the last slot on the ways to `slot` into which two ways bring different words in the register, which no later
+/// instruction writes.
 pub(crate) fn join_point_of(
     alloc: Global,
     policy: &PolicySource,
@@ -86,7 +87,7 @@ pub(crate) fn join_point_of(
     Ok(None)
 }
 
-/// The slots from which control may go to that slot.
+/// Lists the slots from which control may go to the slot `to`.
 fn predecessors(alloc: Global, slots: &[Option<Insn>], to: usize) -> Result<Vec<usize>, AllocError>
     requires short { length slots.now ≤ SLOTS }
     requires sound { IsGraphSound slots.now }
@@ -113,7 +114,7 @@ fn leads(slots: &[Option<Insn>], from: usize, to: usize) -> bool
     is_to(targets.next, to) || is_to(targets.jump, to)
 }
 
-/// Whether the target is this slot.
+/// Whether the target is the slot `to`.
 fn is_to(target: Option<usize>, to: usize) -> bool {
     match target {
         Some(slot) => slot == to,
@@ -121,7 +122,7 @@ fn is_to(target: Option<usize>, to: usize) -> bool {
     }
 }
 
-/// What is known of the register on each way into the slot that a run may take, if something is.
+/// Lists the ways from these slots into the slot `to` on which something is known of the register.
 fn incoming_ways(
     alloc: Global,
     policy: &PolicySource,
@@ -141,7 +142,7 @@ fn incoming_ways(
     Ok(incoming_ways)
 }
 
-/// What is known of the register on the step from the one slot to the other.
+/// Finds what is known of the register on the step from the one slot to the other.
 pub(crate) fn known_behind(
     form: &PolicyForm,
     slots: &[Option<Insn>],
@@ -154,12 +155,12 @@ pub(crate) fn known_behind(
     known(&state, register)
 }
 
-/// What is known of the register at the slot.
+/// Finds what is known of the register at the slot.
 pub(crate) fn known_at(states: &KnownStates, slot: usize, register: u8) -> Option<AbstractValue> {
     known(states.at(slot)?, register)
 }
 
-/// The first of the ways, and another on which the register is another word.
+/// Pairs the first of the ways with one on which the register holds a different word.
 fn differing(shapes: &[MapShape], incoming_ways: &[IncomingWay]) -> Option<WayPair> {
     let [first, rest @ ..] = incoming_ways else {
         return None;
@@ -175,7 +176,7 @@ fn differing(shapes: &[MapShape], incoming_ways: &[IncomingWay]) -> Option<WayPa
     None
 }
 
-/// Two ways.
+/// Two ways on which a register holds different words.
 #[derive(Clone, Copy)]
 struct WayPair {
     first: IncomingWay,
@@ -183,7 +184,7 @@ struct WayPair {
 }
 
 impl WayPair {
-    /// The point where the two ways join at the slot, after which this is known of the register.
+    /// Makes the join point of the two ways at the slot, where `known` is known of the register.
     fn join_at(self, register: u8, slot: usize, known: Option<AbstractValue>) -> JoinPoint {
         JoinPoint {
             register,

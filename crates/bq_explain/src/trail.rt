@@ -16,31 +16,31 @@ use bq_states::abstract_state::AbstractValue;
 use bq_verify::KnownStates;
 use std::alloc::{AllocError, Global};
 
-/// The most places where ways meet that are named.
+/// The most join points that a trail names.
 const JOINS: usize = 3;
 
-/// For at most this many calls it is looked up what is known before them.
+/// The most calls for which it is looked up whether something is known before the call.
 const CALLS: usize = 4;
 
-/// Where registers come from.
+/// Where the registers come from that a need asks for.
 #[derive(Drop)]
 pub struct Trail {
-    /// The instructions that made them, the nearest first, and then those that made what these read; six at most.
+    /// The instructions that made the asked registers, the nearest first, and then those that made what these read; six at most.
     pub made: Vec<RegisterMaker>,
-    /// The registers among them that no instruction sets on some way from the start.
+    /// The asked registers that no instruction sets on some way from the start.
     pub unset: Registers,
-    /// The registers among them that a call leaves unset on some way.
+    /// The asked registers that a call leaves unset on some way.
     pub clobbered: ClobberedRegisters,
-    /// The places where ways meet that bring different words into one of the registers, or into what a maker reads; three at most.
+    /// The join points of the asked registers, and of the registers that a maker reads; three at most.
     pub joins: Vec<JoinPoint>,
 }
 
 /// Registers that calls leave unset.
 #[derive(Clone, Copy)]
 pub struct ClobberedRegisters {
-    /// All of them: a call leaves each unset on some way.
+    /// All registers that a call leaves unset on some way.
     pub all: Registers,
-    /// The registers among them of which something is known before such a call.
+    /// The registers of `all` of which something is known before such a call.
     pub known_before: Registers,
 }
 
@@ -69,7 +69,7 @@ fn leaves_unset(insn: Insn, register: u8) -> bool
     matches!(insn, Insn::Call { .. }) && register != 0
 }
 
-/// A trail of nothing.
+/// Makes a trail that names nothing.
 pub(crate) fn no_trail(alloc: Global) -> Trail
     ensures { result.made.items ≡ [] }
 {
@@ -84,7 +84,7 @@ pub(crate) fn no_trail(alloc: Global) -> Trail
     }
 }
 
-/// Where the registers come from that are asked for at the slot.
+/// Finds where the asked registers come from, as they are at the slot.
 pub(crate) fn trail_of(
     alloc: Global,
     policy: &PolicySource,
@@ -116,7 +116,7 @@ pub(crate) fn trail_of(
     })
 }
 
-/// Each maker with its place and what it made.
+/// Finds the place of each maker, and what is known of the register after that instruction.
 fn made_by(
     alloc: Global,
     policy: &PolicySource,
@@ -135,7 +135,7 @@ fn made_by(
     Ok(made)
 }
 
-/// The maker with its place and what it made.
+/// Finds the place of the maker, and what is known of the register after that instruction.
 fn made_of(
     policy: &PolicySource,
     slots: &[Option<Insn>],
@@ -161,7 +161,7 @@ fn made_of(
     })
 }
 
-/// The registers that no instruction sets on some way from the start; r1 and r10 are set there.
+/// Finds the asked registers that no instruction sets on some way from the start. At the start r1 and r10 are set.
 fn unset_from_start(
     alloc: Global,
     slots: &[Option<Insn>],
@@ -181,7 +181,7 @@ fn unset_from_start(
     Ok(unset)
 }
 
-/// The registers that a call leaves unset on some way to the slot.
+/// Finds the asked registers that a call leaves unset on some way to the slot.
 fn clobbered_by_calls(
     alloc: Global,
     slots: &[Option<Insn>],
@@ -208,7 +208,7 @@ fn clobbered_by_calls(
     Ok(clobbered)
 }
 
-/// The calls from which a run may come to the slot and that leave the register unset there.
+/// Lists the calls that leave the register unset and from which a run may come to the slot with the register still unset.
 fn calls_before(
     alloc: Global,
     slots: &[Option<Insn>],
@@ -249,7 +249,7 @@ fn is_call(slots: &[Option<Insn>], register: u8, slot: usize) -> bool {
     }
 }
 
-/// Where ways meet that bring different words: into the registers that are asked at the slot, and into what the makers read.
+/// Lists the join points of the asked registers, and of the registers that the makers read.
 fn joins(
     alloc: Global,
     policy: &PolicySource,
@@ -274,7 +274,7 @@ fn joins(
     Ok(joins)
 }
 
-/// Registers at a slot of which it is asked where their ways meet. Each has at least `makers` makers.
+/// Registers at a slot whose join points are asked for. A register with fewer than `makers` makers is passed over.
 #[derive(Clone, Copy)]
 struct AskedRegisters {
     slot: usize,
@@ -282,7 +282,7 @@ struct AskedRegisters {
     makers: usize,
 }
 
-/// Where ways meet that bring different words into one of the registers, as long as there is room.
+/// Adds the join points of the asked registers to the list, as long as there is room.
 fn push_joins(
     alloc: Global,
     policy: &PolicySource,
@@ -309,7 +309,7 @@ fn push_joins(
     Ok(())
 }
 
-/// Adds the join point to the list, unless the list has one of the same slot and register.
+/// Adds the join point to the list, if there is one and the list has none of the same slot and register.
 fn push_new(join: Option<JoinPoint>, joins: &mut Vec<JoinPoint>) -> Result<(), AllocError> {
     let Some(join) = join else {
         return Ok(());

@@ -12,8 +12,8 @@ use bq_policy_file::instruction_text;
 use bq_states::abstract_state::AbstractValue;
 use std::alloc::{AllocError, Global};
 
-/// A line for each instruction that made a register, for each register that is unset on some way, and for each place
-/// where ways meet.
+/// Writes a line for each instruction that made a register, for each register that is unset on some way, and for each join
+/// point.
 pub(crate) fn trail_text(
     alloc: Global,
     shapes: &[MapShape],
@@ -27,7 +27,7 @@ pub(crate) fn trail_text(
     format!(in alloc; "{made}{unset}{joins}")
 }
 
-/// The instructions that made registers, a line for each.
+/// Writes a line for each instruction that made a register.
 fn made_lines(
     alloc: Global,
     shapes: &[MapShape],
@@ -43,7 +43,7 @@ fn made_lines(
     Ok(text)
 }
 
-/// The registers that are unset on some way, a line for each.
+/// Writes a line for each register that is unset on some way.
 fn unset_lines(alloc: Global, unset: &Registers) -> Result<String, AllocError>
     ensures { IfOk result (λ text. string_bytes text ≡ unset_below REGISTERS unset.now) }
 {
@@ -55,7 +55,7 @@ fn unset_lines(alloc: Global, unset: &Registers) -> Result<String, AllocError>
     Ok(text)
 }
 
-/// The line of a register, if it is unset on some way.
+/// Writes the line of a register that is unset on some way; empty if the register is set on each.
 fn unset_text(alloc: Global, register: usize, is_unset: bool) -> Result<String, AllocError>
     ensures { IfOk result (λ text. string_bytes text ≡ unset_text register is_unset) }
 {
@@ -67,7 +67,7 @@ fn unset_text(alloc: Global, register: usize, is_unset: bool) -> Result<String, 
     Ok(String::new(alloc))
 }
 
-/// The places where ways meet, a line for each.
+/// Writes a line for each join point.
 fn join_lines(alloc: Global, shapes: &[MapShape], joins: &[JoinPoint]) -> Result<String, AllocError>
     ensures { IfOk result (λ text. string_bytes text ≡ flat_map (join_text shapes.now) joins.now) }
 {
@@ -79,7 +79,7 @@ fn join_lines(alloc: Global, shapes: &[MapShape], joins: &[JoinPoint]) -> Result
     Ok(text)
 }
 
-/// An instruction that made a register, and what it made of it.
+/// Writes the line of an instruction that made a register: place, instruction, and what the register then is.
 fn made_text(alloc: Global, shapes: &[MapShape], made: &RegisterMaker) -> Result<String, AllocError>
     ensures { IfOk result (λ text. string_bytes text ≡ made_text shapes.now made.now) }
 {
@@ -122,7 +122,7 @@ fn join_text(alloc: Global, shapes: &[MapShape], join: &JoinPoint) -> Result<Str
     )
 }
 
-/// What the register is on a way.
+/// Says what the register is on a way, and where the way comes from.
 fn way_text(alloc: Global, shapes: &[MapShape], way: &IncomingWay) -> Result<String, AllocError>
     ensures { IfOk result (λ text. string_bytes text ≡ way_text shapes.now way.now) }
 {
