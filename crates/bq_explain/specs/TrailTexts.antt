@@ -65,15 +65,15 @@ abbrev pub way_text : List MapShape → IncomingWay → List ℕ
 way_text shapes way = known_text shapes way.known ++ (codes " on the path over " ++ place_text way.place)
 
 -- the words on a register after ways meet
-abbrev pub met_text : List MapShape → Option AbstractValue → List ℕ
-met_text shapes None = codes "nothing is known of it"
-met_text shapes (Some k) = codes "it is " ++ known_text shapes k
+abbrev pub join_outcome_text : List MapShape → Option AbstractValue → List ℕ
+join_outcome_text shapes None = codes "nothing is known of it"
+join_outcome_text shapes (Some k) = codes "it is " ++ known_text shapes k
 
 -- the line of two ways that meet
 abbrev pub join_text : List MapShape → JoinPoint → List ℕ
 join_text shapes join =
     codes "  r" ++ (decimal join.register ++ (codes " is " ++ (way_text shapes join.first ++ (codes ", and " ++ (way_text shapes join.second
-    ++ (codes "; where they meet, at slot " ++ (decimal join.slot ++ (codes ", " ++ (met_text shapes join.known ++ codes "\n")))))))))
+    ++ (codes "; where they meet, at slot " ++ (decimal join.slot ++ (codes ", " ++ (join_outcome_text shapes join.known ++ codes "\n")))))))))
 
 -- a line for each instruction that made a register, in order, for each register that is unset on some way, and for each place where ways meet
 abbrev pub trail_text : List MapShape → Trail → List ℕ

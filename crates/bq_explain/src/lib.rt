@@ -1,8 +1,8 @@
 //! Explains what the verifier and a keeper's limits answer to a policy: as a value and, written from the value, in words.
 //!
-//! The explanation of an accepted policy has its numbers. That of a refused policy has the place, the need that is not met, the state
-//! that is known there, the instructions that made the registers, and what helps. The state is the one that `known_states` keeps of
-//! one pass; it holds in every run that comes to the slot.
+//! The explanation of an accepted policy has its numbers. The one of a refused policy has the place, the need that is not met,
+//! the state that is known there, the instructions that made the registers, and what helps. The state is the one that
+//! `known_states` keeps of one pass; it holds in every run that comes to the slot.
 #![tactic(auto)]
 
 mod access_advice;

@@ -1,6 +1,6 @@
 //! Where registers come from, in words.
 ghost use Rattle.std.specs.Prelude.{◌≡◌, IfOk, flat_map, string_bytes};
-ghost use Rattle.bq_explain.specs.TrailTexts.{join_text, made_text, met_text, outcome_text, trail_text, unset_below, unset_text, way_text};
+ghost use Rattle.bq_explain.specs.TrailTexts.{join_outcome_text, join_text, made_text, outcome_text, trail_text, unset_below, unset_text, way_text};
 
 use crate::join_point::{IncomingWay, JoinPoint};
 use crate::program_point::place_text;
@@ -116,9 +116,9 @@ fn join_text(alloc: Global, shapes: &[MapShape], join: &JoinPoint) -> Result<Str
     let slot = join.slot;
     let first = way_text(alloc, shapes, &join.first)?;
     let second = way_text(alloc, shapes, &join.second)?;
-    let met = met_text(alloc, shapes, join.known)?;
+    let outcome = join_outcome_text(alloc, shapes, join.known)?;
     format!(in alloc;
-        "  r{register} is {first}, and {second}; where they meet, at slot {slot}, {met}\n"
+        "  r{register} is {first}, and {second}; where they meet, at slot {slot}, {outcome}\n"
     )
 }
 
@@ -132,12 +132,12 @@ fn way_text(alloc: Global, shapes: &[MapShape], way: &IncomingWay) -> Result<Str
 }
 
 /// Says what is known of the register after the ways meet.
-fn met_text(
+fn join_outcome_text(
     alloc: Global,
     shapes: &[MapShape],
     known: Option<AbstractValue>,
 ) -> Result<String, AllocError>
-    ensures { IfOk result (λ text. string_bytes text ≡ met_text shapes.now known) }
+    ensures { IfOk result (λ text. string_bytes text ≡ join_outcome_text shapes.now known) }
 {
     match known {
         Some(known) => {

@@ -9,7 +9,8 @@ use Rattle.bq_explain.proofs.trail.made_by.Goals.{in-Some+in_ok-push, in_default
 use Rattle.bq_explain.proofs.trail.made_by.Goals as goal
 
 -- one more of them
-one_more : (slots : List (Option Insn)) (makers : List Maker) (maker : Maker) (old new : List RegisterMaker) (one : RegisterMaker)
+one_more : (slots : List (Option Insn)) (makers : List Maker) (maker : Maker) (old new : List RegisterMaker)
+    (one : RegisterMaker)
     → Contains makers maker → IsMadeBy slots maker one → new ≡ old ++ one ∷ [] → AreOf slots makers old
     → AreOf slots makers new
 one_more slots makers maker old new one in_makers of is were other there =

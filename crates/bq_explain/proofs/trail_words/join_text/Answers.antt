@@ -9,11 +9,11 @@ pub returns : goal.returns
 returns c =
     let join = c.args.join.now in
     let where_met =
-    codes "; where they meet, at slot " ++ (decimal join.slot ++ (codes ", " ++ (string_bytes c.in_ok-met.met ++ codes "\n"))) in
+    codes "; where they meet, at slot " ++ (decimal join.slot ++ (codes ", " ++ (string_bytes c.in_ok-outcome.outcome ++ codes "\n"))) in
     IfOk-weaker c.format.result (λ text.
     string_bytes text
     ≡ codes "  r"
     ++ (decimal join.register
     ++ (codes " is " ++ (string_bytes c.in_ok-first.first ++ (codes ", and " ++ (string_bytes c.in_ok-second.second ++ where_met))))))
     (λ text. string_bytes text ≡ join_text c.args.shapes.now join)
-    (λ text is. is ∙ rw (c.in_ok-first.ensures, c.in_ok-second.ensures, c.in_ok-met.ensures) refl) c.format.ensures.ok
+    (λ text is. is ∙ rw (c.in_ok-first.ensures, c.in_ok-second.ensures, c.in_ok-outcome.ensures) refl) c.format.ensures.ok
