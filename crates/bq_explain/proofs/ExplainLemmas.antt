@@ -23,7 +23,7 @@ use Rattle.bq_explain.specs.Explained.{AreAsked, AreMade, IsFinding, IsOfState, 
 use Rattle.bq_explain.specs.declared.program_point.ProgramPoint.{ProgramPoint}
 use Rattle.bq_explain.specs.declared.refusal.Finding.TheVariants as finding
 use Rattle.bq_explain.specs.declared.refusal.ExplainedRefusal.{ExplainedRefusal}
-use Rattle.bq_explain.specs.declared.trail.Made.{Made}
+use Rattle.bq_explain.specs.declared.trail.RegisterMaker.{RegisterMaker}
 use Rattle.bq_explain.specs.Verdicts.{IsVerdict}
 use Rattle.bq_explain.specs.declared.limits.Limits.{Limits}
 use Rattle.bq_explain.specs.declared.verdict.Verdict.{Verdict}
@@ -67,9 +67,9 @@ finds_state p slot insn (cause.Graph named) need known of contains is = absurd o
 finds_state p slot insn (cause.State obligation) need known of contains is = (contains, is)
 
 -- where nothing was made, all that was made is on the trail
-nothing_made : (slots : List (Option Insn)) (slot : ℕ) (made : List Made) → made ≡ [] → AreMade slots slot [] made
+nothing_made : (slots : List (Option Insn)) (slot : ℕ) (made : List RegisterMaker) → made ≡ [] → AreMade slots slot [] made
 nothing_made slots slot made none one there =
-    absurd (let less = (subst (λ (l : List Made). Contains l one) none there).1 in let no : ⊥ = omega arith in no)
+    absurd (let less = (subst (λ (l : List RegisterMaker). Contains l one) none there).1 in let no : ⊥ = omega arith in no)
 
 -- a refusal for a fault of the control graph
 pub refusal_of_graph : {E : Type 0} (p : PolicySource) (slot : ℕ) (named : GraphCause) (place : ProgramPoint) (r : Result ExplainedRefusal E)

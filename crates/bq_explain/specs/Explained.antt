@@ -35,7 +35,7 @@ use Rattle.bq_explain.specs.declared.program_point.ProgramPoint.{ProgramPoint}
 use Rattle.bq_explain.specs.declared.refusal.Finding.{Finding}
 use Rattle.bq_explain.specs.declared.refusal.Finding.TheVariants as finding
 use Rattle.bq_explain.specs.declared.refusal.ExplainedRefusal.{ExplainedRefusal}
-use Rattle.bq_explain.specs.declared.trail.Made.{Made}
+use Rattle.bq_explain.specs.declared.trail.RegisterMaker.{RegisterMaker}
 use Rattle.bq_explain.specs.declared.verdict.Verdict.{Verdict}
 use Rattle.bq_explain.specs.declared.verdict.Verdict.TheVariants.{Accepted, Refused}
 
@@ -92,19 +92,19 @@ abbrev pub AreAsked : Finding → List Bool → Type 0
 AreAsked found asked = (r : ℕ) → slice_index_or asked r false ≡ true → is_found_of found r ≡ true
 
 -- each of them is on the trail of these registers at the slot
-abbrev pub AreMade : List (Option Insn) → ℕ → List Bool → List Made → Type 0
+abbrev pub AreMade : List (Option Insn) → ℕ → List Bool → List RegisterMaker → Type 0
 AreMade slots slot asked made =
-    (one : Made) → Contains made one → IsOnTrail slots slot asked one.register one.place.slot × (instruction_at slots one.place.slot ≡ Some one.place.insn)
+    (one : RegisterMaker) → Contains made one → IsOnTrail slots slot asked one.register one.place.slot × (instruction_at slots one.place.slot ≡ Some one.place.insn)
 
 -- what was made is of this maker: its register, its slot and the instruction there
-pub record IsMadeBy (slots : List (Option Insn)) (maker : Maker) (made : Made) : Type 0 where
+pub record IsMadeBy (slots : List (Option Insn)) (maker : Maker) (made : RegisterMaker) : Type 0 where
   pub register_is : made.register ≡ maker.register
   pub slot_is : made.place.slot ≡ maker.slot
   pub insn_is : instruction_at slots made.place.slot ≡ Some made.place.insn
 
 -- each of them tells of one of the makers
-abbrev pub AreOf : List (Option Insn) → List Maker → List Made → Type 0
-AreOf slots makers made = (one : Made) → Contains made one → (maker : Maker) × Contains makers maker × IsMadeBy slots maker one
+abbrev pub AreOf : List (Option Insn) → List Maker → List RegisterMaker → Type 0
+AreOf slots makers made = (one : RegisterMaker) → Contains made one → (maker : Maker) × Contains makers maker × IsMadeBy slots maker one
 
 -- the instruction at the slot, what is found there, and instructions on the trail of registers of which that speaks
 pub record IsRefusalOf (p : PolicySource) (slot : ℕ) (named : Cause) (refusal : ExplainedRefusal) : Type 0 where

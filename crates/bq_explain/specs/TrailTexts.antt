@@ -7,10 +7,10 @@ use Rattle.bq_asm.specs.Text.{line_body}
 use Rattle.bq_bpf.specs.declared.shape.MapShape.{MapShape}
 use Rattle.bq_states.specs.declared.abstract_state.AbstractValue.{AbstractValue}
 use Rattle.bq_needs.specs.Texts.{known_text}
-use Rattle.bq_explain.specs.declared.join_point.Coming.{Coming}
+use Rattle.bq_explain.specs.declared.join_point.IncomingWay.{IncomingWay}
 use Rattle.bq_explain.specs.declared.join_point.JoinPoint.{JoinPoint}
 use Rattle.bq_explain.specs.declared.program_point.ProgramPoint.{ProgramPoint}
-use Rattle.bq_explain.specs.declared.trail.Made.{Made}
+use Rattle.bq_explain.specs.declared.trail.RegisterMaker.{RegisterMaker}
 use Rattle.bq_explain.specs.declared.trail.Trail.{Trail}
 
 -- a slot, after the line of the text if there is one
@@ -46,7 +46,7 @@ outcome_text shapes insn register None = unset_outcome register (leaves_unset in
 outcome_text shapes insn register (Some k) = codes "    r" ++ (decimal register ++ (codes " then is " ++ known_text shapes k))
 
 -- the line of an instruction that made a register: its slot, the instruction, and what the register then is
-abbrev pub made_text : List MapShape → Made → List ℕ
+abbrev pub made_text : List MapShape → RegisterMaker → List ℕ
 made_text shapes made =
     codes "  made at " ++ (place_text made.place ++ (codes ":  " ++ (line_body made.place.insn ++ (outcome_text shapes made.place.insn made.register made.known ++ codes "\n"))))
 
@@ -61,24 +61,24 @@ unset_below zero unset = []
 unset_below (suc n) unset = unset_below n unset ++ unset_text n (slice_index_or unset n false)
 
 -- what a register is on a way, and the instruction that the way comes from
-abbrev pub coming_text : List MapShape → Coming → List ℕ
-coming_text shapes coming = known_text shapes coming.known ++ (codes " on the path over " ++ place_text coming.place)
+abbrev pub way_text : List MapShape → IncomingWay → List ℕ
+way_text shapes way = known_text shapes way.known ++ (codes " on the path over " ++ place_text way.place)
 
 -- the words on a register after ways meet
-abbrev pub met_text : List MapShape → Option AbstractValue → List ℕ
-met_text shapes None = codes "nothing is known of it"
-met_text shapes (Some k) = codes "it is " ++ known_text shapes k
+abbrev pub join_outcome_text : List MapShape → Option AbstractValue → List ℕ
+join_outcome_text shapes None = codes "nothing is known of it"
+join_outcome_text shapes (Some k) = codes "it is " ++ known_text shapes k
 
 -- the line of two ways that meet
-abbrev pub meeting_text : List MapShape → JoinPoint → List ℕ
-meeting_text shapes meeting =
-    codes "  r" ++ (decimal meeting.register ++ (codes " is " ++ (coming_text shapes meeting.first ++ (codes ", and " ++ (coming_text shapes meeting.second
-    ++ (codes "; where they meet, at slot " ++ (decimal meeting.slot ++ (codes ", " ++ (met_text shapes meeting.known ++ codes "\n")))))))))
+abbrev pub join_text : List MapShape → JoinPoint → List ℕ
+join_text shapes join =
+    codes "  r" ++ (decimal join.register ++ (codes " is " ++ (way_text shapes join.first ++ (codes ", and " ++ (way_text shapes join.second
+    ++ (codes "; where they meet, at slot " ++ (decimal join.slot ++ (codes ", " ++ (join_outcome_text shapes join.known ++ codes "\n")))))))))
 
 -- a line for each instruction that made a register, in order, for each register that is unset on some way, and for each place where ways meet
 abbrev pub trail_text : List MapShape → Trail → List ℕ
 trail_text shapes trail =
-    flat_map (made_text shapes) trail.made.items ++ (unset_below 11 trail.unset ++ flat_map (meeting_text shapes) trail.meetings.items)
+    flat_map (made_text shapes) trail.made.items ++ (unset_below 11 trail.unset ++ flat_map (join_text shapes) trail.joins.items)
 
 -- the text says where the registers come from, and then on one line what helps
 abbrev pub DescribesTrail : List MapShape → Trail → List ℕ → Type 0

@@ -9,27 +9,27 @@ use bq_needs::{Lack, MemoryAccess};
 use bq_policy_file::PolicySource;
 use bq_states::abstract_state::{AbstractValue, ValueKind};
 
-/// Two facts about a load beyond the context, by which its advice is chosen.
+/// Two facts about a load beyond the context, by which the advice is chosen.
 #[derive(Clone, Copy)]
 pub struct Reach {
-    /// Whether its pointer may be one of several.
+    /// Whether the access may have one of several addresses.
     pub is_range: bool,
-    /// Whether the longer context of format 2 has what it loads.
+    /// Whether the longer context of format 2 has all bytes of the load.
     pub is_in_second: bool,
 }
 
 /// The places of a map's value at which an access may begin.
 #[derive(Clone, Copy)]
 pub struct AccessRange {
-    /// Whether its pointer may be one of several.
+    /// Whether the access may have one of several addresses.
     pub is_range: bool,
-    /// The last byte of the value at which it may begin.
+    /// The last byte of the value at which the access may begin.
     pub last: usize,
-    /// Whether the greatest value that a map may have has what it accesses.
+    /// Whether the greatest value that a map may have has all bytes of the access.
     pub is_in_greatest: bool,
 }
 
-/// What helps if an access lacks this.
+/// Chooses what helps an access that lacks this.
 pub(crate) fn access_advice(
     policy: &PolicySource,
     access: MemoryAccess,

@@ -93,11 +93,11 @@ pub enum Advice {
 /// The registers of which nothing is known, by why.
 #[derive(Clone, Copy)]
 pub struct Missing {
-    /// A call leaves them unset on some way, and something is known of them before it.
-    pub held: Registers,
-    /// A call leaves them unset on some way, and nothing is known of them before it.
-    pub called: Registers,
-    /// No instruction sets them on some way from the start.
+    /// The registers that a call leaves unset on some way, if something is known of the register before the call.
+    pub known_before_call: Registers,
+    /// The registers that a call leaves unset on some way, if nothing is known of the register before the call.
+    pub unknown_before_call: Registers,
+    /// The registers that no instruction sets on some way from the start.
     pub unset: Registers,
     /// The registers that hold words of different kinds after ways meet.
     pub mixed: Registers,
@@ -163,7 +163,7 @@ fn answer_advice(answer: AbstractValue) -> Advice {
     }
 }
 
-/// That register.
+/// The set of that register alone.
 pub(crate) fn only(register: u8) -> Registers
     ensures { (r : ℕ) → slice_index_or result r false ≡ true → (register == r) ≡ true }
 {
@@ -180,20 +180,20 @@ fn unknown_advice(registers: &Registers, trail: &Trail) -> Advice
     ensures { (missing : Lacking) × (result ≡ Know missing) }
 {
     let mut missing = Missing {
-        held: [false; REGISTERS],
-        called: [false; REGISTERS],
+        known_before_call: [false; REGISTERS],
+        unknown_before_call: [false; REGISTERS],
         unset: [false; REGISTERS],
         mixed: [false; REGISTERS],
     };
     for at in 0..REGISTERS {
         let is_asked = registers[at];
-        let is_called = trail.left.called[at];
-        let is_held = trail.left.held[at];
+        let is_clobbered = trail.clobbered.all[at];
+        let is_known_before = trail.clobbered.known_before[at];
         let is_unset = trail.unset[at];
-        missing.held[at] = is_asked && is_called && is_held;
-        missing.called[at] = is_asked && is_called && !is_held;
-        missing.unset[at] = is_asked && is_unset && !is_called;
-        missing.mixed[at] = is_asked && !is_unset && !is_called;
+        missing.known_before_call[at] = is_asked && is_clobbered && is_known_before;
+        missing.unknown_before_call[at] = is_asked && is_clobbered && !is_known_before;
+        missing.unset[at] = is_asked && is_unset && !is_clobbered;
+        missing.mixed[at] = is_asked && !is_unset && !is_clobbered;
     }
     Advice::Know(missing)
 }
@@ -219,7 +219,7 @@ fn argument_advice(
 {
     let register = argument.register();
     let at = usize::from(register);
-    let is_mixed = at < REGISTERS && !trail.left.called[at] && !trail.unset[at];
+    let is_mixed = at < REGISTERS && !trail.clobbered.all[at] && !trail.unset[at];
     if known(state, register).is_none() && is_mixed {
         return unknown_advice(&only(register), trail);
     }

@@ -196,17 +196,17 @@ fn missing_text(alloc: Global, missing: &Missing) -> Result<String, AllocError> 
     Ok(text)
 }
 
-/// Says what helps if nothing is known of this register; empty if it is not one of them.
+/// Says what helps if nothing is known of the register; empty if the register is not missing.
 fn lack_text(alloc: Global, missing: &Missing, register: usize) -> Result<String, AllocError> {
     if register >= REGISTERS {
         return Ok(String::new(alloc));
     }
-    if missing.called[register] {
+    if missing.unknown_before_call[register] {
         return format!(in alloc;
             "set r{register} after the call, on each path that leads here: a call leaves r1 to r5 unset"
         );
     }
-    if missing.held[register] {
+    if missing.known_before_call[register] {
         return format!(in alloc;
             "a call leaves r1 to r5 unset: on each path that leads here copy r{register} before the call, as by mov64 r6, r{register}, and read the copy, or set r{register} again"
         );

@@ -16,7 +16,7 @@ use bq_transfer::sides::{right_side, side};
 use bq_transfer::transfer::transfer;
 use bq_verify::{KnownStates, PolicyForm};
 
-/// What is known on the step from one slot to another; None if no run takes it.
+/// Finds the state on the step from one slot to another; None if no run takes the step.
 pub(crate) fn known_after(
     form: &PolicyForm,
     slots: &[Option<Insn>],
@@ -37,7 +37,7 @@ pub(crate) fn known_after(
     None
 }
 
-/// Whether a run may go on by the instruction, to the next one or by its jump; then the state is the one after it.
+/// Whether a run may go on from the instruction, to the next one or by its jump; if so, makes the state the one after that step.
 fn comes(
     state: &mut AbstractState,
     shapes: &[MapShape],
@@ -68,7 +68,7 @@ pub(crate) struct Sides {
     pub jump: bool,
 }
 
-/// The sides that a run may take of the branch at the slot; of another instruction, both, as far as it has them.
+/// Finds the sides that a run may take of the branch at the slot; both if the instruction is no branch.
 pub(crate) fn sides_of(states: &KnownStates, slot: usize, insn: Insn) -> Sides {
     let Some(test) = test_of(insn) else {
         return Sides {
@@ -90,7 +90,7 @@ pub(crate) fn sides_of(states: &KnownStates, slot: usize, insn: Insn) -> Sides {
     }
 }
 
-/// What a branch asks.
+/// The test that a branch makes.
 #[derive(Clone, Copy)]
 struct BranchTest {
     width: Width,
@@ -99,7 +99,7 @@ struct BranchTest {
     src: Source,
 }
 
-/// What the instruction asks, if it is a branch.
+/// Finds the test of the instruction, if it is a branch.
 fn test_of(insn: Insn) -> Option<BranchTest> {
     match insn {
         Insn::Branch {
@@ -118,7 +118,7 @@ fn test_of(insn: Insn) -> Option<BranchTest> {
     }
 }
 
-/// Whether a run may pass the test that way; then the state is the one after it.
+/// Whether a run may leave the test on that side; if so, makes the state the one after the test.
 fn passes(state: &mut AbstractState, test: BranchTest, is_taken: bool) -> bool {
     if test.dst >= 10 {
         return false;
@@ -142,7 +142,7 @@ fn passes(state: &mut AbstractState, test: BranchTest, is_taken: bool) -> bool {
     true
 }
 
-/// Whether a run may pass an instruction that only the next one can follow; then the state is the one after it.
+/// Whether a run may pass an instruction that only the next one can follow; if so, makes the state the one after the instruction.
 fn goes_on(state: &mut AbstractState, shapes: &[MapShape], context: usize, insn: Insn) -> bool
     requires context { context < 2 ^ 16 }
     requires few { length shapes.now ≤ MAPS }

@@ -1,4 +1,4 @@
-//! What is said of a policy, as a value: its verdict, and what explains it.
+//! The explanation of a policy as a value: its verdict, and the detail behind the verdict.
 ghost use Rattle.std.specs.Prelude.{IfOk};
 ghost use Rattle.bq_explain.specs.Explained.{Explains, IsDetail, IsOfVerifier};
 
@@ -10,28 +10,28 @@ use crate::verdict::{Verdict, judge};
 use bq_policy_file::PolicySource;
 use std::alloc::{AllocError, Global};
 
-/// What is said of a policy.
+/// The explanation of a policy.
 #[derive(Drop)]
 pub struct Explanation {
     /// The answer of the verifier and the limits.
     pub verdict: Verdict,
-    /// What explains it.
+    /// The detail behind the verdict.
     pub detail: Detail,
 }
 
-/// What explains a verdict.
+/// The detail behind a verdict.
 #[derive(Drop)]
 pub enum Detail {
-    /// Of a policy that is accepted: what it uses.
+    /// The policy is accepted: what its program uses.
     Accepted(Summary),
-    /// Of a policy that is safe and beyond a limit: the first call that is not allowed, if that is the limit.
+    /// The policy is safe and exceeds a limit: the first call of a helper that is not allowed, if the limit is on helpers.
     Limited(Option<ProgramPoint>),
     /// The verifier refuses the policy: the place and the reason.
     Refused(ExplainedRefusal),
 }
 
-/// The verdict on a policy, and what explains it. What it says of registers and stack at the slot of a refusal holds in
-/// every run that comes there. The label of a jump at fault is taken from the bytes of the policy's file, if that is a text.
+/// Judges a policy and explains the verdict. What the explanation says of registers and stack at the slot of a refusal holds
+/// in every run that comes there. The label of a jump at fault is taken from the bytes of the policy's file, if the file is a text.
 pub fn explain(
     alloc: Global,
     policy: &PolicySource,
@@ -45,7 +45,7 @@ pub fn explain(
     Ok(Explanation { verdict, detail })
 }
 
-/// What explains the verdict.
+/// Finds the detail behind the verdict.
 fn detail_of(
     alloc: Global,
     policy: &PolicySource,

@@ -13,21 +13,21 @@ use std::alloc::{AllocError, Global};
 /// What is wrong with an instruction by the control graph or by itself.
 #[derive(Clone, Copy)]
 pub enum GraphFault {
-    /// It jumps to that slot, which the program does not have.
+    /// The instruction jumps to that slot, which the program does not have.
     JumpsOut(i64),
-    /// It jumps back to that slot, or to itself.
+    /// The instruction jumps back to that slot, or to itself.
     JumpsBack(i64),
-    /// It jumps to that slot, the second one of a wide instruction.
+    /// The instruction jumps to that slot, the second one of a wide instruction.
     JumpsInside(i64),
-    /// Control goes on from it past the end.
+    /// Control goes on from the instruction past the end.
     RunsOut,
-    /// No path leads to it.
+    /// No path leads to the instruction.
     Unreached,
-    /// It calls a helper that does not exist.
+    /// The instruction calls a helper that does not exist.
     Helper(i32),
-    /// It writes register 10.
+    /// The instruction writes register 10.
     Frame,
-    /// It is a call of a counter before which there may be too many.
+    /// The instruction calls a counter, and too many such calls may come before.
     Calls,
 }
 
@@ -39,13 +39,13 @@ pub(crate) fn graph_fault(count: usize, slot: usize, insn: Insn, cause: GraphCau
         GraphCause::Jump => jump_fault(count, slot, distance(insn).unwrap_or(0)),
         GraphCause::NoExit => GraphFault::RunsOut,
         GraphCause::Unreached => GraphFault::Unreached,
-        GraphCause::Helper => GraphFault::Helper(called(insn)),
+        GraphCause::Helper => GraphFault::Helper(called_helper(insn)),
         GraphCause::Frame => GraphFault::Frame,
         GraphCause::Counters => GraphFault::Calls,
     }
 }
 
-/// What is wrong with a jump over that distance, which leads to no later instruction.
+/// Names the fault of a jump over that distance, which leads to no later instruction.
 fn jump_fault(count: usize, slot: usize, distance: i64) -> GraphFault
     ensures { graph_cause_of result ≡ GraphCause.Jump }
 {
@@ -62,14 +62,14 @@ fn jump_fault(count: usize, slot: usize, distance: i64) -> GraphFault
 }
 
 /// The helper that the instruction calls.
-fn called(insn: Insn) -> i32 {
+fn called_helper(insn: Insn) -> i32 {
     match insn {
         Insn::Call { helper } => helper,
         _ => 0,
     }
 }
 
-/// The label to which the jump on that line of a text goes, if it goes to one.
+/// Finds the label to which the jump on that line of a text goes, if the jump names one.
 pub(crate) fn label_on(file: &[u8], line: Option<usize>) -> Option<&str> {
     let text = std::str::from_utf8(file).ok()?;
     let line = text.lines().nth(line?.checked_sub(1)?)?;
@@ -92,7 +92,7 @@ fn is_between(letter: char) -> bool {
     letter == ' ' || letter == '\t' || letter == ','
 }
 
-/// The fault of the policy in words. A jump is reported by the label that it names, if it names one.
+/// Says the fault of the policy in words. A jump that names a label is reported by the label.
 pub(crate) fn graph_text(
     alloc: Global,
     policy: &PolicySource,
@@ -103,7 +103,7 @@ pub(crate) fn graph_text(
         GraphFault::JumpsOut(to) => return out_text(alloc, label, to),
         GraphFault::JumpsBack(to) => return back_text(alloc, policy, label, to),
         GraphFault::JumpsInside(to) => return inside_text(alloc, to),
-        GraphFault::Helper(helper) => return called_text(alloc, helper),
+        GraphFault::Helper(helper) => return helper_text(alloc, helper),
         GraphFault::RunsOut => "goes on past the end of the program, where an exit is needed",
         GraphFault::Unreached => "is on no path from the first instruction",
         GraphFault::Frame => "writes r10, which is only read",
@@ -116,13 +116,13 @@ pub(crate) fn graph_text(
     String::from_str(alloc, words)
 }
 
-/// A jump out of the program, to that slot.
+/// Says that a jump leads out of the program, to that slot.
 fn out_text(alloc: Global, label: Option<&str>, to: i64) -> Result<String, AllocError> {
     let to = target_text(alloc, label, None, to)?;
     format!(in alloc; "jumps to {to}, out of the program")
 }
 
-/// A jump back to that slot.
+/// Says that a jump leads back to that slot.
 fn back_text(
     alloc: Global,
     policy: &PolicySource,
@@ -137,12 +137,12 @@ fn back_text(
     format!(in alloc; "jumps back to {to}: a policy has no loops")
 }
 
-/// A jump to that slot, the second one of a wide instruction.
+/// Says that a jump leads to that slot, the second one of a wide instruction.
 fn inside_text(alloc: Global, to: i64) -> Result<String, AllocError> {
     format!(in alloc; "jumps to slot {to}, into a wide instruction")
 }
 
-/// The target of a jump: its label and the line of the instruction there, as far as there are any, and its slot.
+/// Names the target of a jump: the label and the line of the instruction there, as far as there are any, and the slot.
 fn target_text(
     alloc: Global,
     label: Option<&str>,
@@ -159,8 +159,8 @@ fn target_text(
     }
 }
 
-/// A helper that does not exist.
-fn called_text(alloc: Global, helper: i32) -> Result<String, AllocError> {
+/// Says that the helper does not exist.
+fn helper_text(alloc: Global, helper: i32) -> Result<String, AllocError> {
     let numbers = with_helper_numbers!("the helpers are ");
     format!(in alloc; "calls helper {helper}, which does not exist; {numbers}")
 }

@@ -24,24 +24,25 @@ const TRIED: usize = 4;
 #[derive(Clone, Copy)]
 pub struct JoinPoint {
     pub register: u8,
-    /// The slot where they meet.
+    /// The slot where the two ways meet.
     pub slot: usize,
-    /// What is known of the register there.
+    /// What is known of the register at that slot.
     pub known: Option<AbstractValue>,
-    /// The one way.
-    pub first: Coming,
-    /// The other.
-    pub second: Coming,
+    /// The first of the two ways.
+    pub first: IncomingWay,
+    /// The second of the two ways.
+    pub second: IncomingWay,
 }
 
 /// A way into a slot: the instruction that it comes from, and what a register is known to be after that instruction.
 #[derive(Clone, Copy)]
-pub struct Coming {
+pub struct IncomingWay {
     pub place: ProgramPoint,
     pub known: AbstractValue,
 }
 
-/// The last slot on the ways to this one at which the register comes with different words; no later instruction writes it.
+/// Finds the last slot on the ways to `slot` into which two ways bring different words in the register, which no later
+/// instruction writes.
 pub(crate) fn join_point_of(
     alloc: Global,
     policy: &PolicySource,
@@ -61,10 +62,10 @@ pub(crate) fn join_point_of(
         let is_on_way = here == slot
             || (is_marked(reaching.as_slice(), here) && spares(slots, register, here));
         if tried < TRIED && is_on_way {
-            let from = before(alloc, slots, here)?;
+            let from = predecessors(alloc, slots, here)?;
             if from.len() > 1 {
                 tried = tried.saturating_add(1);
-                let comings = comings(
+                let incoming_ways = incoming_ways(
                     alloc,
                     policy,
                     slots,
@@ -73,9 +74,12 @@ pub(crate) fn join_point_of(
                     here,
                     register,
                 )?;
-                if let Some(both) = differing(policy.form.shapes.as_slice(), comings.as_slice()) {
+                if let Some(pair) = differing(
+                    policy.form.shapes.as_slice(),
+                    incoming_ways.as_slice(),
+                ) {
                     let known = known_at(states, here, register);
-                    return Ok(Some(both.join_at(register, here, known)));
+                    return Ok(Some(pair.join_at(register, here, known)));
                 }
             }
         }
@@ -83,8 +87,8 @@ pub(crate) fn join_point_of(
     Ok(None)
 }
 
-/// The slots from which control may go to that slot.
-fn before(alloc: Global, slots: &[Option<Insn>], to: usize) -> Result<Vec<usize>, AllocError>
+/// Lists the slots from which control may go to the slot `to`.
+fn predecessors(alloc: Global, slots: &[Option<Insn>], to: usize) -> Result<Vec<usize>, AllocError>
     requires short { length slots.now ≤ SLOTS }
     requires sound { IsGraphSound slots.now }
 {
@@ -110,7 +114,7 @@ fn leads(slots: &[Option<Insn>], from: usize, to: usize) -> bool
     is_to(targets.next, to) || is_to(targets.jump, to)
 }
 
-/// Whether the target is this slot.
+/// Whether the target is the slot `to`.
 fn is_to(target: Option<usize>, to: usize) -> bool {
     match target {
         Some(slot) => slot == to,
@@ -118,8 +122,8 @@ fn is_to(target: Option<usize>, to: usize) -> bool {
     }
 }
 
-/// What is known of the register on each way into the slot that a run may take, if something is.
-fn comings(
+/// Lists the ways from these slots into the slot `to` on which something is known of the register.
+fn incoming_ways(
     alloc: Global,
     policy: &PolicySource,
     slots: &[Option<Insn>],
@@ -127,18 +131,18 @@ fn comings(
     from: &[usize],
     to: usize,
     register: u8,
-) -> Result<Vec<Coming>, AllocError> {
-    let mut comings = Vec::new(alloc);
+) -> Result<Vec<IncomingWay>, AllocError> {
+    let mut incoming_ways = Vec::new(alloc);
     for slot in from {
         let known = known_behind(&policy.form, slots, states, *slot, to, register);
         if let (Some(place), Some(known)) = (place_at(policy, slots, *slot), known) {
-            comings.push(Coming { place, known })?;
+            incoming_ways.push(IncomingWay { place, known })?;
         }
     }
-    Ok(comings)
+    Ok(incoming_ways)
 }
 
-/// What is known of the register on the step from the one slot to the other.
+/// Finds what is known of the register on the step from the one slot to the other.
 pub(crate) fn known_behind(
     form: &PolicyForm,
     slots: &[Option<Insn>],
@@ -151,19 +155,19 @@ pub(crate) fn known_behind(
     known(&state, register)
 }
 
-/// What is known of the register at the slot.
+/// Finds what is known of the register at the slot.
 pub(crate) fn known_at(states: &KnownStates, slot: usize, register: u8) -> Option<AbstractValue> {
     known(states.at(slot)?, register)
 }
 
-/// The first of the ways, and another on which the register is another word.
-fn differing(shapes: &[MapShape], comings: &[Coming]) -> Option<Both> {
-    let [first, rest @ ..] = comings else {
+/// Pairs the first of the ways with one on which the register holds a different word.
+fn differing(shapes: &[MapShape], incoming_ways: &[IncomingWay]) -> Option<WayPair> {
+    let [first, rest @ ..] = incoming_ways else {
         return None;
     };
     for second in rest {
         if differ(shapes, first.known, second.known) {
-            return Some(Both {
+            return Some(WayPair {
                 first: *first,
                 second: *second,
             });
@@ -172,15 +176,15 @@ fn differing(shapes: &[MapShape], comings: &[Coming]) -> Option<Both> {
     None
 }
 
-/// Two ways.
+/// Two ways on which a register holds different words.
 #[derive(Clone, Copy)]
-struct Both {
-    first: Coming,
-    second: Coming,
+struct WayPair {
+    first: IncomingWay,
+    second: IncomingWay,
 }
 
-impl Both {
-    /// The point where the two ways join at the slot, after which this is known of the register.
+impl WayPair {
+    /// Makes the join point of the two ways at the slot, where `known` is known of the register.
     fn join_at(self, register: u8, slot: usize, known: Option<AbstractValue>) -> JoinPoint {
         JoinPoint {
             register,

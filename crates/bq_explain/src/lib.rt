@@ -1,8 +1,8 @@
-//! What the verifier and a keeper's limits say of a policy, explained: as a value and, written from that, in words.
+//! Explains what the verifier and a keeper's limits answer to a policy: as a value and, written from the value, in words.
 //!
-//! An accepted policy has its numbers; a refused one the place, the need that is not met, what is known there, which instructions made
-//! that, and what helps. What is said of registers and stack is what `known_states` keeps of one pass, which holds in every run that
-//! comes to the slot.
+//! The explanation of an accepted policy has its numbers. The one of a refused policy has the place, the need that is not met,
+//! the state that is known there, the instructions that made the registers, and what helps. The state is the one that
+//! `known_states` keeps of one pass; it holds in every run that comes to the slot.
 #![tactic(auto)]
 
 mod access_advice;
@@ -30,12 +30,12 @@ pub use advice::{Advice, Missing};
 pub use advice_words::advice_text;
 pub use explanation::{Detail, Explanation, explain};
 pub use graph_fault::GraphFault;
-pub use join_point::{Coming, JoinPoint};
+pub use join_point::{IncomingWay, JoinPoint};
 pub use limits::{Limits, Over};
 pub use measure::Measure;
 pub use program_point::{ProgramPoint, index_at};
 pub use refusal::{ExplainedRefusal, Finding};
 pub use summary::{Summary, maps_text};
 pub use text::{explanation_text, need_words};
-pub use trail::{Clobbered, Made, Trail};
+pub use trail::{ClobberedRegisters, RegisterMaker, Trail};
 pub use verdict::{Verdict, judge, verdict_line};

@@ -16,11 +16,11 @@ use std::alloc::{AllocError, Global};
 /// What an instruction is to the ways from a writer of a register to a slot, on which no other instruction writes it.
 #[derive(Clone, Copy)]
 enum Role {
-    /// It is on none.
+    /// The instruction is on none of the ways.
     Off,
-    /// It begins one, for it writes the register.
+    /// The instruction begins a way, for it writes the register.
     Makes,
-    /// It is on one, and does not write the register.
+    /// The instruction is on a way, and does not write the register.
     Leads,
 }
 
@@ -79,7 +79,8 @@ pub(crate) fn makers(
     swept(alloc, slots, register, slot, leading.as_mut_slice())
 }
 
-/// Finds what `makers` answers. `leading` marks the slots from which a way that spares the register leads to the slot: at first none.
+/// Finds what `makers` answers. `leading` marks the slots from which a way that spares the register leads to the slot; at first
+/// it marks none.
 fn swept(
     alloc: Global,
     slots: &[Option<Insn>],
@@ -107,7 +108,7 @@ fn swept(
     Ok(makers)
 }
 
-/// What the instruction of slot `here` is to those ways; `leading` says of each later slot whether a way leads on from it.
+/// Finds the role of the instruction of slot `here`. `leading` says of each later slot whether a way leads on from that slot.
 fn role_of(slots: &[Option<Insn>], register: u8, here: usize, leading: &[bool]) -> Role
     requires inside { here < length slots.now }
     requires short { length slots.now ≤ SLOTS }
@@ -132,9 +133,9 @@ fn role_of(slots: &[Option<Insn>], register: u8, here: usize, leading: &[bool]) 
 /// An instruction that made a register.
 #[derive(Clone, Copy)]
 pub struct Maker {
-    /// Its slot.
+    /// The slot of the instruction.
     pub slot: usize,
-    /// The register.
+    /// The register that the instruction made.
     pub register: u8,
 }
 
@@ -166,7 +167,7 @@ pub(crate) fn trail(
     Ok(trail)
 }
 
-/// The instructions that made what the maker reads.
+/// Adds the instructions that made what the maker reads, as long as there is room.
 fn push_operands(
     alloc: Global,
     slots: &[Option<Insn>],
@@ -233,7 +234,7 @@ fn push_named(
     Ok(())
 }
 
-/// Whether the maker is one of these, or no run comes from it.
+/// Whether the maker is on the trail already, or no run comes from the maker.
 fn is_left_out(trail: &[Maker], reaching: &[bool], maker: Maker) -> bool {
     !is_marked(reaching, maker.slot)
         || trail.iter().any(|named| named.slot == maker.slot && named.register == maker.register)

@@ -32,7 +32,7 @@ impl Measure {
         }
     }
 
-    /// What answers call it.
+    /// The name of the measure in answers and options.
     pub fn word(self) -> &'static str
         ensures { result.now ≡ measure_word self }
     {
@@ -45,7 +45,7 @@ impl Measure {
 }
 
 impl Measure {
-    /// What it counts, for a reader.
+    /// Says in words what the measure counts.
     pub(crate) fn words(self) -> &'static str {
         match self {
             Measure::Maps => "maps",

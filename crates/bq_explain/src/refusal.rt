@@ -23,10 +23,10 @@ use std::alloc::{AllocError, Global};
 /// Why the verifier refuses a policy.
 #[derive(Drop)]
 pub struct ExplainedRefusal {
-    /// The instruction at which it does.
+    /// The instruction at which the verifier refuses the policy.
     pub place: ProgramPoint,
     pub cause: Cause,
-    /// What is wrong there.
+    /// What is wrong with that instruction.
     pub finding: Finding,
     /// The label that the instruction names, if it is a jump at fault of a policy that came as a text.
     pub label: Option<String>,
@@ -39,11 +39,11 @@ pub struct ExplainedRefusal {
 /// What is wrong with an instruction.
 #[derive(Clone, Copy)]
 pub enum Finding {
-    /// It has a fault by the control graph or by itself.
+    /// The instruction has a fault by the control graph or by itself.
     Graph(GraphFault),
     /// The instruction needs what is not shown; this is known of registers and stack before it.
     State { need: Need, known: AbstractState },
-    /// Nothing is known before it.
+    /// Nothing is known before the instruction.
     Unknown,
 }
 
@@ -140,7 +140,7 @@ fn state_refusal(
     })
 }
 
-/// What is known before the instruction, and the need that it does not give.
+/// Finds the state before the instruction, and the need that this state does not meet.
 fn finding_of(
     policy: &PolicySource,
     states: &KnownStates,
@@ -161,7 +161,7 @@ fn finding_of(
     }
 }
 
-/// The registers that matter to what is wrong.
+/// Lists the registers that matter to the finding.
 fn asked_in(finding: Finding) -> Registers
     ensures { AreAsked finding result }
 {

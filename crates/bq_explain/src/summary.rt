@@ -1,4 +1,4 @@
-//! What is said of a program that is accepted.
+//! The summary of an accepted program: what the program uses, as a value and as one line.
 ghost use Rattle.std.specs.Prelude.{◌≡◌, IfOk, string_bytes};
 ghost use Rattle.bq_insn.specs.Appending.{StartsWith};
 ghost use Rattle.bq_explain.specs.Beginnings.{accepted_words, map_shapes_text};
@@ -46,7 +46,7 @@ pub(crate) fn summary_text(
     format!(in alloc; "{words}, helpers {helpers}, counters {counters}, slots {slots}\n")
 }
 
-/// Its hook, its budget, its version and its maps.
+/// Writes the beginning of the line on an accepted program: hook, budget, version and maps.
 pub(crate) fn accepted_words(
     alloc: Global,
     policy: &PolicySource,

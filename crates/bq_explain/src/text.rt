@@ -40,7 +40,7 @@ pub fn explanation_text(
     }
 }
 
-/// What is said of an accepted policy.
+/// Writes the line of an accepted policy, with helpers, counters and slots if the detail is a summary.
 fn accepted_text(
     alloc: Global,
     policy: &PolicySource,
@@ -55,7 +55,7 @@ fn accepted_text(
     }
 }
 
-/// What is said of a policy that is not accepted, after the line of its verdict.
+/// Adds to the line of a verdict why the policy is not accepted, if the detail says why.
 fn refused_text(
     alloc: Global,
     policy: &PolicySource,
@@ -77,7 +77,7 @@ fn refused_text(
     }
 }
 
-/// What is said of a policy beyond a limit.
+/// Says which limit the policy exceeds, and what it uses or calls.
 fn limit_text(
     alloc: Global,
     name: Option<&str>,
@@ -112,7 +112,7 @@ fn limit_text(
     }
 }
 
-/// What is said of a policy that the verifier refuses, after the line of its verdict.
+/// Adds to the line of a refusal its place, the need that is not met, the state before the instruction, and what helps.
 fn refusal_text(
     alloc: Global,
     policy: &PolicySource,
@@ -139,7 +139,7 @@ fn refusal_text(
     }
 }
 
-/// The need of a refusal in words, without what is known.
+/// Says what is wrong with the refused instruction, without the state that is known before the instruction.
 pub fn need_words(
     alloc: Global,
     policy: &PolicySource,

@@ -16,44 +16,44 @@ use bq_states::abstract_state::AbstractValue;
 use bq_verify::KnownStates;
 use std::alloc::{AllocError, Global};
 
-/// The most places where ways meet that are named.
-const MEETINGS: usize = 3;
+/// The most join points that a trail names.
+const JOINS: usize = 3;
 
-/// For at most this many calls it is looked up what is known before them.
+/// The most calls for which it is looked up whether something is known before the call.
 const CALLS: usize = 4;
 
-/// Where registers come from.
+/// Where the registers come from that a need asks for.
 #[derive(Drop)]
 pub struct Trail {
-    /// The instructions that made them, the nearest first, and then those that made what these read; six at most.
-    pub made: Vec<Made>,
-    /// The registers among them that no instruction sets on some way from the start.
+    /// The instructions that made the asked registers, the nearest first, and then those that made what these read; six at most.
+    pub made: Vec<RegisterMaker>,
+    /// The asked registers that no instruction sets on some way from the start.
     pub unset: Registers,
-    /// The registers among them that a call leaves unset on some way.
-    pub left: Clobbered,
-    /// The places where ways meet that bring different words into one of the registers, or into what a maker reads; three at most.
-    pub meetings: Vec<JoinPoint>,
+    /// The asked registers that a call leaves unset on some way.
+    pub clobbered: ClobberedRegisters,
+    /// The join points of the asked registers, and of the registers that a maker reads; three at most.
+    pub joins: Vec<JoinPoint>,
 }
 
 /// Registers that calls leave unset.
 #[derive(Clone, Copy)]
-pub struct Clobbered {
-    /// A call leaves them unset on some way.
-    pub called: Registers,
-    /// Those of `called` of which something is known before such a call.
-    pub held: Registers,
+pub struct ClobberedRegisters {
+    /// All registers that a call leaves unset on some way.
+    pub all: Registers,
+    /// The registers of `all` of which something is known before such a call.
+    pub known_before: Registers,
 }
 
 /// An instruction that made a register.
 #[derive(Clone, Copy)]
-pub struct Made {
+pub struct RegisterMaker {
     pub place: ProgramPoint,
     pub register: u8,
     /// What is known of the register after the instruction; None if a call leaves it unset.
     pub known: Option<AbstractValue>,
 }
 
-impl Made {
+impl RegisterMaker {
     /// Whether a call left the register unset.
     pub fn is_unset(&self) -> bool
         ensures { result ≡ leaves_unset self.now.place.insn self.now.register }
@@ -69,22 +69,22 @@ fn leaves_unset(insn: Insn, register: u8) -> bool
     matches!(insn, Insn::Call { .. }) && register != 0
 }
 
-/// A trail of nothing.
+/// Makes a trail that names nothing.
 pub(crate) fn no_trail(alloc: Global) -> Trail
     ensures { result.made.items ≡ [] }
 {
     Trail {
         made: Vec::new(alloc),
         unset: [false; REGISTERS],
-        left: Clobbered {
-            called: [false; REGISTERS],
-            held: [false; REGISTERS],
+        clobbered: ClobberedRegisters {
+            all: [false; REGISTERS],
+            known_before: [false; REGISTERS],
         },
-        meetings: Vec::new(alloc),
+        joins: Vec::new(alloc),
     }
 }
 
-/// Where the registers come from that are asked for at the slot.
+/// Finds where the asked registers come from, as they are at the slot.
 pub(crate) fn trail_of(
     alloc: Global,
     policy: &PolicySource,
@@ -101,29 +101,29 @@ pub(crate) fn trail_of(
     let makers = trail(alloc, slots, &ways, slot, asked)?;
     let made = made_by(alloc, policy, slots, states, makers.as_slice())?;
     let unset = unset_from_start(alloc, slots, &ways, slot, asked)?;
-    let left = left_by_calls(alloc, slots, states, &ways, slot, asked)?;
-    let asked = Asked {
+    let clobbered = clobbered_by_calls(alloc, slots, states, &ways, slot, asked)?;
+    let asked = AskedRegisters {
         slot,
         registers: *asked,
         makers: 0,
     };
-    let meetings = meetings(alloc, policy, slots, states, &ways, asked, made.as_slice())?;
+    let joins = joins(alloc, policy, slots, states, &ways, asked, made.as_slice())?;
     Ok(Trail {
         made,
         unset,
-        left,
-        meetings,
+        clobbered,
+        joins,
     })
 }
 
-/// Each maker with its place and what it made.
+/// Finds the place of each maker, and what is known of the register after that instruction.
 fn made_by(
     alloc: Global,
     policy: &PolicySource,
     slots: &[Option<Insn>],
     states: &KnownStates,
     makers: &[Maker],
-) -> Result<Vec<Made>, AllocError>
+) -> Result<Vec<RegisterMaker>, AllocError>
     ensures { IfOk result (λ made. AreOf slots.now makers.now made.items) }
 {
     let mut made = Vec::new(alloc);
@@ -135,13 +135,13 @@ fn made_by(
     Ok(made)
 }
 
-/// The maker with its place and what it made.
+/// Finds the place of the maker, and what is known of the register after that instruction.
 fn made_of(
     policy: &PolicySource,
     slots: &[Option<Insn>],
     states: &KnownStates,
     maker: Maker,
-) -> Option<Made>
+) -> Option<RegisterMaker>
     ensures { IfSome result (IsMadeBy slots.now maker) }
 {
     let place = place_at(policy, slots, maker.slot)?;
@@ -154,14 +154,14 @@ fn made_of(
         next,
         maker.register,
     );
-    Some(Made {
+    Some(RegisterMaker {
         place,
         register: maker.register,
         known,
     })
 }
 
-/// The registers that no instruction sets on some way from the start; r1 and r10 are set there.
+/// Finds the asked registers that no instruction sets on some way from the start. At the start r1 and r10 are set.
 fn unset_from_start(
     alloc: Global,
     slots: &[Option<Insn>],
@@ -181,34 +181,34 @@ fn unset_from_start(
     Ok(unset)
 }
 
-/// The registers that a call leaves unset on some way to the slot.
-fn left_by_calls(
+/// Finds the asked registers that a call leaves unset on some way to the slot.
+fn clobbered_by_calls(
     alloc: Global,
     slots: &[Option<Insn>],
     states: &KnownStates,
     ways: &Ways,
     slot: usize,
     asked: &Registers,
-) -> Result<Clobbered, AllocError>
+) -> Result<ClobberedRegisters, AllocError>
     requires walkable { CanBeWalked slots.now }
     requires inside { slot < length slots.now }
 {
-    let mut left = Clobbered {
-        called: [false; REGISTERS],
-        held: [false; REGISTERS],
+    let mut clobbered = ClobberedRegisters {
+        all: [false; REGISTERS],
+        known_before: [false; REGISTERS],
     };
     for register in 0..REGISTERS as u8 {
         let at = usize::from(register);
         if asked[at] {
             let calls = calls_before(alloc, slots, ways, register, slot)?;
-            left.called[at] = !calls.is_empty();
-            left.held[at] = is_held(states, calls.as_slice(), register);
+            clobbered.all[at] = !calls.is_empty();
+            clobbered.known_before[at] = is_known_before(states, calls.as_slice(), register);
         }
     }
-    Ok(left)
+    Ok(clobbered)
 }
 
-/// The calls from which a run may come to the slot and that leave the register unset there.
+/// Lists the calls that leave the register unset and from which a run may come to the slot with the register still unset.
 fn calls_before(
     alloc: Global,
     slots: &[Option<Insn>],
@@ -232,7 +232,7 @@ fn calls_before(
 }
 
 /// Whether something is known of the register before one of the nearest calls.
-fn is_held(states: &KnownStates, calls: &[usize], register: u8) -> bool {
+fn is_known_before(states: &KnownStates, calls: &[usize], register: u8) -> bool {
     for call in calls.iter().take(CALLS) {
         if known_at(states, *call, register).is_some() {
             return true;
@@ -249,48 +249,48 @@ fn is_call(slots: &[Option<Insn>], register: u8, slot: usize) -> bool {
     }
 }
 
-/// Where ways meet that bring different words: into the registers that are asked at the slot, and into what the makers read.
-fn meetings(
+/// Lists the join points of the asked registers, and of the registers that the makers read.
+fn joins(
     alloc: Global,
     policy: &PolicySource,
     slots: &[Option<Insn>],
     states: &KnownStates,
     ways: &Ways,
-    asked: Asked,
-    made: &[Made],
+    asked: AskedRegisters,
+    made: &[RegisterMaker],
 ) -> Result<Vec<JoinPoint>, AllocError>
     requires walkable { CanBeWalked slots.now }
 {
-    let mut meetings = Vec::new(alloc);
-    push_meetings(alloc, policy, slots, states, ways, asked, &mut meetings)?;
+    let mut joins = Vec::new(alloc);
+    push_joins(alloc, policy, slots, states, ways, asked, &mut joins)?;
     for one in made {
-        let operands = Asked {
+        let operands = AskedRegisters {
             slot: one.place.slot,
             registers: read_registers(one.place.insn),
             makers: 2,
         };
-        push_meetings(alloc, policy, slots, states, ways, operands, &mut meetings)?;
+        push_joins(alloc, policy, slots, states, ways, operands, &mut joins)?;
     }
-    Ok(meetings)
+    Ok(joins)
 }
 
-/// Registers at a slot of which it is asked where their ways meet. Each has at least `makers` makers.
+/// Registers at a slot whose join points are asked for. A register with fewer than `makers` makers is passed over.
 #[derive(Clone, Copy)]
-struct Asked {
+struct AskedRegisters {
     slot: usize,
     registers: Registers,
     makers: usize,
 }
 
-/// Where ways meet that bring different words into one of the registers, as long as there is room.
-fn push_meetings(
+/// Adds the join points of the asked registers to the list, as long as there is room.
+fn push_joins(
     alloc: Global,
     policy: &PolicySource,
     slots: &[Option<Insn>],
     states: &KnownStates,
     ways: &Ways,
-    asked: Asked,
-    meetings: &mut Vec<JoinPoint>,
+    asked: AskedRegisters,
+    joins: &mut Vec<JoinPoint>,
 ) -> Result<(), AllocError>
     requires walkable { CanBeWalked slots.now }
 {
@@ -298,27 +298,27 @@ fn push_meetings(
         return Ok(());
     }
     for register in 0..REGISTERS as u8 {
-        if asked.registers[usize::from(register)] && meetings.len() < MEETINGS {
+        if asked.registers[usize::from(register)] && joins.len() < JOINS {
             let made = makers(alloc, slots, register, asked.slot)?;
             if made.len() >= asked.makers {
-                let met = join_point_of(alloc, policy, slots, states, ways, register, asked.slot)?;
-                push_new(met, meetings)?;
+                let join = join_point_of(alloc, policy, slots, states, ways, register, asked.slot)?;
+                push_new(join, joins)?;
             }
         }
     }
     Ok(())
 }
 
-/// The meeting, if it is one, and none of these yet.
-fn push_new(met: Option<JoinPoint>, meetings: &mut Vec<JoinPoint>) -> Result<(), AllocError> {
-    let Some(met) = met else {
+/// Adds the join point to the list, if there is one and the list has none of the same slot and register.
+fn push_new(join: Option<JoinPoint>, joins: &mut Vec<JoinPoint>) -> Result<(), AllocError> {
+    let Some(join) = join else {
         return Ok(());
     };
-    for other in meetings.as_slice() {
-        if other.slot == met.slot && other.register == met.register {
+    for other in joins.as_slice() {
+        if other.slot == join.slot && other.register == join.register {
             return Ok(());
         }
     }
-    meetings.push(met)?;
+    joins.push(join)?;
     Ok(())
 }

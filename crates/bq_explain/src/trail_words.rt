@@ -1,10 +1,10 @@
 //! Where registers come from, in words.
 ghost use Rattle.std.specs.Prelude.{◌≡◌, IfOk, flat_map, string_bytes};
-ghost use Rattle.bq_explain.specs.TrailTexts.{coming_text, made_text, meeting_text, met_text, outcome_text, trail_text, unset_below, unset_text};
+ghost use Rattle.bq_explain.specs.TrailTexts.{join_outcome_text, join_text, made_text, outcome_text, trail_text, unset_below, unset_text, way_text};
 
-use crate::join_point::{Coming, JoinPoint};
+use crate::join_point::{IncomingWay, JoinPoint};
 use crate::program_point::place_text;
-use crate::trail::{Made, Trail};
+use crate::trail::{RegisterMaker, Trail};
 use bq_bpf::MapShape;
 use bq_insn::REGISTERS;
 use bq_needs::{Registers, known_text};
@@ -12,8 +12,8 @@ use bq_policy_file::instruction_text;
 use bq_states::abstract_state::AbstractValue;
 use std::alloc::{AllocError, Global};
 
-/// A line for each instruction that made a register, for each register that is unset on some way, and for each place
-/// where ways meet.
+/// Writes a line for each instruction that made a register, for each register that is unset on some way, and for each join
+/// point.
 pub(crate) fn trail_text(
     alloc: Global,
     shapes: &[MapShape],
@@ -23,12 +23,16 @@ pub(crate) fn trail_text(
 {
     let made = made_lines(alloc, shapes, trail.made.as_slice())?;
     let unset = unset_lines(alloc, &trail.unset)?;
-    let meetings = meeting_lines(alloc, shapes, trail.meetings.as_slice())?;
-    format!(in alloc; "{made}{unset}{meetings}")
+    let joins = join_lines(alloc, shapes, trail.joins.as_slice())?;
+    format!(in alloc; "{made}{unset}{joins}")
 }
 
-/// The instructions that made registers, a line for each.
-fn made_lines(alloc: Global, shapes: &[MapShape], makers: &[Made]) -> Result<String, AllocError>
+/// Writes a line for each instruction that made a register.
+fn made_lines(
+    alloc: Global,
+    shapes: &[MapShape],
+    makers: &[RegisterMaker],
+) -> Result<String, AllocError>
     ensures { IfOk result (λ text. string_bytes text ≡ flat_map (made_text shapes.now) makers.now) }
 {
     let mut text = String::new(alloc);
@@ -39,7 +43,7 @@ fn made_lines(alloc: Global, shapes: &[MapShape], makers: &[Made]) -> Result<Str
     Ok(text)
 }
 
-/// The registers that are unset on some way, a line for each.
+/// Writes a line for each register that is unset on some way.
 fn unset_lines(alloc: Global, unset: &Registers) -> Result<String, AllocError>
     ensures { IfOk result (λ text. string_bytes text ≡ unset_below REGISTERS unset.now) }
 {
@@ -51,7 +55,7 @@ fn unset_lines(alloc: Global, unset: &Registers) -> Result<String, AllocError>
     Ok(text)
 }
 
-/// The line of a register, if it is unset on some way.
+/// Writes the line of a register that is unset on some way; empty if the register is set on each.
 fn unset_text(alloc: Global, register: usize, is_unset: bool) -> Result<String, AllocError>
     ensures { IfOk result (λ text. string_bytes text ≡ unset_text register is_unset) }
 {
@@ -63,24 +67,20 @@ fn unset_text(alloc: Global, register: usize, is_unset: bool) -> Result<String, 
     Ok(String::new(alloc))
 }
 
-/// The places where ways meet, a line for each.
-fn meeting_lines(
-    alloc: Global,
-    shapes: &[MapShape],
-    meetings: &[JoinPoint],
-) -> Result<String, AllocError>
-    ensures { IfOk result (λ text. string_bytes text ≡ flat_map (meeting_text shapes.now) meetings.now) }
+/// Writes a line for each join point.
+fn join_lines(alloc: Global, shapes: &[MapShape], joins: &[JoinPoint]) -> Result<String, AllocError>
+    ensures { IfOk result (λ text. string_bytes text ≡ flat_map (join_text shapes.now) joins.now) }
 {
     let mut text = String::new(alloc);
-    for meeting in meetings {
-        let line = meeting_text(alloc, shapes, meeting)?;
+    for join in joins {
+        let line = join_text(alloc, shapes, join)?;
         text.push_str(line.as_str())?;
     }
     Ok(text)
 }
 
-/// An instruction that made a register, and what it made of it.
-fn made_text(alloc: Global, shapes: &[MapShape], made: &Made) -> Result<String, AllocError>
+/// Writes the line of an instruction that made a register: place, instruction, and what the register then is.
+fn made_text(alloc: Global, shapes: &[MapShape], made: &RegisterMaker) -> Result<String, AllocError>
     ensures { IfOk result (λ text. string_bytes text ≡ made_text shapes.now made.now) }
 {
     let place = place_text(alloc, &made.place)?;
@@ -90,7 +90,11 @@ fn made_text(alloc: Global, shapes: &[MapShape], made: &Made) -> Result<String, 
 }
 
 /// Says what the register is after the instruction.
-fn outcome_text(alloc: Global, shapes: &[MapShape], made: &Made) -> Result<String, AllocError>
+fn outcome_text(
+    alloc: Global,
+    shapes: &[MapShape],
+    made: &RegisterMaker,
+) -> Result<String, AllocError>
     ensures { IfOk result (λ text. string_bytes text ≡ outcome_text shapes.now made.now.place.insn made.now.register made.now.known) }
 {
     let register = made.register;
@@ -105,39 +109,35 @@ fn outcome_text(alloc: Global, shapes: &[MapShape], made: &Made) -> Result<Strin
 }
 
 /// Says which two ways meet where, and what the register is on each.
-fn meeting_text(
-    alloc: Global,
-    shapes: &[MapShape],
-    meeting: &JoinPoint,
-) -> Result<String, AllocError>
-    ensures { IfOk result (λ text. string_bytes text ≡ meeting_text shapes.now meeting.now) }
+fn join_text(alloc: Global, shapes: &[MapShape], join: &JoinPoint) -> Result<String, AllocError>
+    ensures { IfOk result (λ text. string_bytes text ≡ join_text shapes.now join.now) }
 {
-    let register = meeting.register;
-    let slot = meeting.slot;
-    let first = coming_text(alloc, shapes, &meeting.first)?;
-    let second = coming_text(alloc, shapes, &meeting.second)?;
-    let met = met_text(alloc, shapes, meeting.known)?;
+    let register = join.register;
+    let slot = join.slot;
+    let first = way_text(alloc, shapes, &join.first)?;
+    let second = way_text(alloc, shapes, &join.second)?;
+    let outcome = join_outcome_text(alloc, shapes, join.known)?;
     format!(in alloc;
-        "  r{register} is {first}, and {second}; where they meet, at slot {slot}, {met}\n"
+        "  r{register} is {first}, and {second}; where they meet, at slot {slot}, {outcome}\n"
     )
 }
 
-/// What the register is on a way.
-fn coming_text(alloc: Global, shapes: &[MapShape], coming: &Coming) -> Result<String, AllocError>
-    ensures { IfOk result (λ text. string_bytes text ≡ coming_text shapes.now coming.now) }
+/// Says what the register is on a way, and where the way comes from.
+fn way_text(alloc: Global, shapes: &[MapShape], way: &IncomingWay) -> Result<String, AllocError>
+    ensures { IfOk result (λ text. string_bytes text ≡ way_text shapes.now way.now) }
 {
-    let known = known_text(alloc, shapes, &coming.known)?;
-    let place = place_text(alloc, &coming.place)?;
+    let known = known_text(alloc, shapes, &way.known)?;
+    let place = place_text(alloc, &way.place)?;
     format!(in alloc; "{known} on the path over {place}")
 }
 
 /// Says what is known of the register after the ways meet.
-fn met_text(
+fn join_outcome_text(
     alloc: Global,
     shapes: &[MapShape],
     known: Option<AbstractValue>,
 ) -> Result<String, AllocError>
-    ensures { IfOk result (λ text. string_bytes text ≡ met_text shapes.now known) }
+    ensures { IfOk result (λ text. string_bytes text ≡ join_outcome_text shapes.now known) }
 {
     match known {
         Some(known) => {

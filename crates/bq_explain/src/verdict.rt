@@ -13,17 +13,17 @@ use std::alloc::{AllocError, Global};
 /// The answer to a policy under limits.
 #[derive(Clone, Copy)]
 pub enum Verdict {
-    /// It is safe, and its runs of at most this many instructions are within the limits.
+    /// The policy is safe, and its runs of at most this many instructions are within the limits.
     Accepted { budget: u32 },
-    /// Its runs take up to `budget` instructions, and only `most` are allowed.
+    /// The runs of the policy take up to `budget` instructions, and only `most` are allowed.
     OverSteps { budget: u32, most: u32 },
-    /// It calls a helper that is not allowed.
+    /// The policy calls a helper that is not allowed.
     Forbidden { helper: i32 },
-    /// It is for a hook that is not allowed.
+    /// The policy is for a hook that is not allowed.
     OtherHook,
-    /// It is beyond another limit.
+    /// The policy exceeds another limit.
     Beyond(Over),
-    /// It is not shown to be safe: the slot that is named, and the cause.
+    /// The policy is not shown to be safe: the slot that the verifier names, and the cause.
     Refused { slot: usize, cause: Cause },
 }
 

@@ -17,7 +17,7 @@ pub(crate) struct Ways {
     jump: Vec<Option<usize>>,
 }
 
-/// Where runs may go from each slot before this one.
+/// Finds where runs may go from each slot before `slot`.
 pub(crate) fn ways_before(
     alloc: Global,
     slots: &[Option<Insn>],
@@ -49,7 +49,7 @@ pub(crate) fn ways_before(
     Ok(ways)
 }
 
-/// Where runs may go from a slot that a run reaches.
+/// Finds where runs may go from a slot that a run reaches.
 fn open_from(slots: &[Option<Insn>], states: &KnownStates, from: usize) -> Targets
     requires walkable { CanBeWalked slots.now }
     requires inside { from < length slots.now }
@@ -60,18 +60,18 @@ fn open_from(slots: &[Option<Insn>], states: &KnownStates, from: usize) -> Targe
             jump: None,
         };
     };
-    taken(targets(slots, from, insn), sides_of(states, from, insn))
+    open_targets(targets(slots, from, insn), sides_of(states, from, insn))
 }
 
-/// The targets on those sides.
-fn taken(both: Targets, sides: Sides) -> Targets {
+/// Keeps the targets on the sides that a run may take.
+fn open_targets(all: Targets, sides: Sides) -> Targets {
     Targets {
-        next: if sides.next { both.next } else { None },
-        jump: if sides.jump { both.jump } else { None },
+        next: if sides.next { all.next } else { None },
+        jump: if sides.jump { all.jump } else { None },
     }
 }
 
-/// Marks the slot, if there is one.
+/// Marks the slot in the list, if there is a slot and the list has it.
 fn mark(list: &mut [bool], slot: Option<usize>) {
     if let Some(slot) = slot {
         if slot < list.len() {
@@ -80,12 +80,12 @@ fn mark(list: &mut [bool], slot: Option<usize>) {
     }
 }
 
-/// Whether the slot is marked.
+/// Whether the list marks the slot.
 pub(crate) fn is_marked(list: &[bool], slot: usize) -> bool {
     list.get(slot).copied() == Some(true)
 }
 
-/// For each slot, whether a run may go from it to that one so that no later instruction on its way writes the register.
+/// Marks each slot from which a run may come to `slot` so that no later instruction on its way writes the register.
 pub(crate) fn reaching(
     alloc: Global,
     slots: &[Option<Insn>],

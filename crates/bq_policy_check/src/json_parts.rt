@@ -7,7 +7,8 @@ ghost use Rattle.bq_policy_check.specs.Showing.{of_accepted, of_limit, refusal_f
 use bq_bpf::MapShape;
 use bq_console::NO_TEXT;
 use bq_explain::{
-    ExplainedRefusal, Finding, Made, ProgramPoint, Summary, Verdict, advice_text, need_words,
+    ExplainedRefusal, Finding, ProgramPoint, RegisterMaker, Summary, Verdict, advice_text,
+    need_words,
 };
 use bq_needs::known_text;
 use bq_policy_file::{PolicySource, instruction_text};
@@ -220,7 +221,11 @@ fn known_value(
 }
 
 /// The instructions that made registers, the nearest first.
-fn trail_value(alloc: Global, shapes: &[MapShape], trail: &[Made]) -> Result<Value, AllocError> {
+fn trail_value(
+    alloc: Global,
+    shapes: &[MapShape],
+    trail: &[RegisterMaker],
+) -> Result<Value, AllocError> {
     let mut values = Vec::new(alloc);
     for made in trail {
         values.push(made_value(alloc, shapes, made)?)?;
@@ -229,7 +234,11 @@ fn trail_value(alloc: Global, shapes: &[MapShape], trail: &[Made]) -> Result<Val
 }
 
 /// An instruction that made a register, and what the register is known to be after it.
-fn made_value(alloc: Global, shapes: &[MapShape], made: &Made) -> Result<Value, AllocError> {
+fn made_value(
+    alloc: Global,
+    shapes: &[MapShape],
+    made: &RegisterMaker,
+) -> Result<Value, AllocError> {
     let mut fields = Map::new(alloc);
     put_place(&mut fields, alloc, &made.place)?;
     let register = made.register;

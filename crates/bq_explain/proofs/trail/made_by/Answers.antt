@@ -4,20 +4,21 @@ use Rattle.std.proofs.lemmas.List.Elements.{Contains-get_or, Contains-push_cases
 use Rattle.bq_insn.specs.declared.Insn.{Insn}
 use Rattle.bq_explain.specs.Explained.{AreOf, IsMadeBy}
 use Rattle.bq_explain.specs.declared.makers.Maker.{Maker}
-use Rattle.bq_explain.specs.declared.trail.Made.{Made}
+use Rattle.bq_explain.specs.declared.trail.RegisterMaker.{RegisterMaker}
 use Rattle.bq_explain.proofs.trail.made_by.Goals.{in-Some+in_ok-push, in_default}
 use Rattle.bq_explain.proofs.trail.made_by.Goals as goal
 
 -- one more of them
-one_more : (slots : List (Option Insn)) (makers : List Maker) (maker : Maker) (old new : List Made) (one : Made)
+one_more : (slots : List (Option Insn)) (makers : List Maker) (maker : Maker) (old new : List RegisterMaker)
+    (one : RegisterMaker)
     → Contains makers maker → IsMadeBy slots maker one → new ≡ old ++ one ∷ [] → AreOf slots makers old
     → AreOf slots makers new
 one_more slots makers maker old new one in_makers of is were other there =
-    by (Contains-push_cases old one other (subst (λ (l : List Made). Contains l other) is there))
+    by (Contains-push_cases old one other (subst (λ (l : List RegisterMaker). Contains l other) is there))
   where
     by : Contains old other ⊎ (one ≡ other) → (m : Maker) × Contains makers m × IsMadeBy slots m other
     by (inl earlier) = were other earlier
-    by (inr same) = (maker, in_makers, subst (λ (o : Made). IsMadeBy slots maker o) same of)
+    by (inr same) = (maker, in_makers, subst (λ (o : RegisterMaker). IsMadeBy slots maker o) same of)
 
 pub loop-maker-preserved : goal.loop-maker-preserved
 loop-maker-preserved c =

@@ -3,11 +3,11 @@ use Rattle.bq_insn.specs.declared.Insn.{Insn}
 use Rattle.bq_explain.specs.Explained.{AreMade, AreOf}
 use Rattle.bq_explain.specs.Makers.{AreOnTrail, IsOnTrail}
 use Rattle.bq_explain.specs.declared.makers.Maker.{Maker}
-use Rattle.bq_explain.specs.declared.trail.Made.{Made}
+use Rattle.bq_explain.specs.declared.trail.RegisterMaker.{RegisterMaker}
 use Rattle.bq_explain.proofs.trail.trail_of.Goals as goal
 
 -- what tells of makers on the trail is on it
-on_trail : (slots : List (Option Insn)) (slot : ℕ) (asked : List Bool) (makers : List Maker) (made : List Made)
+on_trail : (slots : List (Option Insn)) (slot : ℕ) (asked : List Bool) (makers : List Maker) (made : List RegisterMaker)
     → AreOnTrail slots slot asked makers → AreOf slots makers made → AreMade slots slot asked made
 on_trail slots slot asked makers made on of one there =
     let source = of one there in (
