@@ -4,7 +4,7 @@ ghost use Rattle.std.specs.Prelude.{◌≤◌, length};
 
 use crate::asked::Asked;
 use crate::presence::present;
-use crate::reasons::{Reason, reason};
+use crate::reasons::{Reason, choice_reason};
 use crate::rival_text::{write_deadlines, write_equal_runtime, write_giving_way};
 use crate::task_row::{TaskRow, measured_from, rows};
 use crate::texts::{IdsText, LagText, StandingText, TaskText, VirtualTime, eligibility};
@@ -138,7 +138,7 @@ fn write_reason(
     if choice.by == By::Discipline {
         choice.asked.write_overruled(text)?;
     }
-    match reason(discipline, choice.by, choice.was, choice.run, tasks) {
+    match choice_reason(discipline, choice.by, choice.was, choice.run, tasks) {
         Reason::Policy => choice.asked.write_answer(text, Hook::Preempt.word()),
         Reason::EarliestDeadline => {
             let eligible = IdsText { names, rows };

@@ -28,7 +28,7 @@ pub use choices::choice;
 pub use event_text::{RefusalText, RefusedEvent};
 pub use presence::{present, waiting};
 pub use pull_sight::{OwnPull, PullSight, sight};
-pub use reasons::{Reason, reason};
+pub use reasons::{Reason, choice_reason};
 pub use rivals::{passed_over, tied_with};
 pub use task_row::{TaskRow, measured_from, rows};
 pub use why_text::{Occurrence, WhyForm, processor_and_time};

@@ -30,7 +30,7 @@ pub enum Reason {
 }
 
 /// Finds why `run` runs, among the tasks that are there. `by` made the choice, and `was` ran before.
-pub fn reason(
+pub fn choice_reason(
     discipline: DisciplineName,
     by: By,
     was: Option<u16>,
