@@ -21,7 +21,7 @@ acronym Eevdf = codes "EEVDF"
 -- the discipline, if it is known
 abbrev pub discipline_text : Option DisciplineName → List ℕ
 discipline_text None = []
-discipline_text (Some discipline) = discipline discipline ++ codes ", "
+discipline_text (Some discipline) = acronym discipline ++ codes ", "
 
 -- the time that a picture is drawn over
 abbrev pub times_text : PictureSetting → List ℕ
