@@ -31,7 +31,7 @@ COMPLETED = {  # what bash offers after these lines
     "simulate --as map wor": "workloads",
     "timeline --width ": "",
 }
-SYNOPSIS = ["COMMAND [OPTIONS] [FILE]", "[COMMAND] --help", "--version"]
+SYNOPSIS = ["[COMMAND] --help", "--version"]  # beside the usage of each command
 DESCRIPTION = [
     "bqsim works out which task each processor of a machine runs at each moment, under CFS or EEVDF, two disciplines of Linux. The same workload, policies and "
     "seed give the same answers each time. To begin, run ./bqsim simulate workloads/desktop.toml in the folder of the repository. You work with three kinds of files:",
@@ -75,6 +75,31 @@ EXAMPLES = [
         "Two policies over ten seeds: the means of both, their difference, and its deviation, for each figure",
         "bqsim simulate --seeds 10 --preempt policies/heavier_first.s --against policies/every_fourth_tick.s examples/lab/editor.toml",
     ),
+]
+OUTPUT = [
+    ("check", "accepted HOOK budget N: the policy is for this hook, and a run takes at most N instructions. refused STAGE, then a cause and a place, as in "
+     "refused L8 V5 0: L8 is the verifier, V5 its cause (a bad access), and 0 the slot. A slot is an 8-byte piece of the program, counted from 0. --explain adds the "
+     "reason, what is known there, and what helps"),
+    ("run", "r0 is the answer, in decimal and in hex, then whether it is permitted, and how many instructions ran, of the most that a run may take"),
+    ("replay", "a reply for each line. by rule: the discipline chose; by policy: a policy did. steps: how many instructions the policy ran. refused C9 and the like: "
+     "the event is not possible then, and changes nothing"),
+    ("simulate, timeline", "the report has tables of the tasks, their latencies, the processors and, if one was asked, the policies. A task's cpu ms is how long it ran, and fair ms its share by weight of the time in "
+     "which it could run. switches: how often it began to run; preempted: how often another took its place; migrated: how often it changed the processor. p50, p95, p99 "
+     "and max are its latencies, from a wake to the next run. overruled: how often a policy's answer was not permitted. The last table has how near each processor came "
+     "to the bound of a law of fairness"),
+    ("simulate --seeds", "a row for each figure: mean and deviation of the first side, of the other side (against), and of the difference, which is against less mean, seed by seed"),
+]
+FORMATS = [
+    ("a workload", "TOML. [machine] has discipline, processors, duration, tick, balance, migration_cost and seed. Each [[task]] is a kind of task: name, count, nice, slice, cpus, start, loops, "
+     "and what it does: run and sleep, or do with a list of run, sleep, wait and wake. A length is a text, as \"2ms\", or drawn: { uniform = [\"1ms\", \"3ms\"] } or "
+     "{ exponential = \"2ms\" }"),
+    ("a trace", "a text: machine DISCIPLINE PROCESSORS first, then an event on each line: admit, wake, drain, tick, block, pull and some more. wake 0 1 2000 is: processor 0 wakes task 1 at 2000 ns. A line "
+     "that begins with # is a comment"),
+    ("a policy", "assembler text whose lines ;@ hook HOOK, ;@ maps SIZE:ENTRIES and ;@ format 1 or 2 describe it, an image, or the hex of an image. r1 points to the context at the "
+     "start, and r0 at exit is the answer"),
+]
+ENVIRONMENT = [
+    ("XDG_CACHE_HOME, HOME", "where the script ./bqsim keeps the program that it unpacks, if it can't write in the repository"),
 ]
 FOLDERS = [
     ("workloads/, examples/", "workloads and traces to begin with"),
@@ -210,7 +235,8 @@ def block(lines):
 
 def page(program, commands):
     lines = ['.TH BQSIM 1 "" bqsim "User commands"', ".SH NAME", f"bqsim \\- {roff(program.about[0].lower() + program.about[1:])}", ".SH SYNOPSIS"]
-    for number, words in enumerate(SYNOPSIS):
+    usages = [told.usage.removeprefix("bqsim ") for told in commands.values()]
+    for number, words in enumerate(usages + SYNOPSIS):
         lines += [".br"] * (number > 0) + [".B bqsim", roff(words)]
     lines += [".SH DESCRIPTION", *map(roff, DESCRIPTION), *tagged("I", WORDS)]
     for paragraph in USE:
@@ -228,7 +254,10 @@ def page(program, commands):
             for words, what in new:
                 said.setdefault((words, what), name)
         lines += [".PP", "Examples:", *block(told.examples()), ".PP", roff(more(told.lists["More"]))]
+    lines += [".SH OUTPUT", "docs/TIMELINE.md has each form in full, docs/TRACE.md each reply.", *tagged("B", OUTPUT)]
+    lines += [".SH FILE FORMATS", "What each may say in full is in the pages below.", *tagged("B", FORMATS)]
     lines += [".SH EXIT STATUS", *tagged("B", STATUSES)]
+    lines += [".SH ENVIRONMENT", "The program reads no variable of the environment.", *tagged("B", ENVIRONMENT)]
     lines += [".SH THE SCRIPT", "In a clone of the repository the script ./bqsim runs the program. It has some words of its own:", *tagged("B", SCRIPT)]
     lines += [".SH FILES", "In the repository:", *tagged("I", FOLDERS)]
     lines += [".SH EXAMPLES", "They run in the folder of the repository, where you write ./bqsim for bqsim."]
