@@ -78,23 +78,23 @@ macro_rules! forms_and_examples {
 const ASM_OPTIONS: &[OptionText] = options! {
     ("file", Alone("FILE"), "The assembler text; without it, or with -, standard input is read"),
     ("hook", Once("HOOK"), with_hooks!("Writes an image for this hook: ")),
-    ("maps", Once("MAPS"), "With --hook, the bytes of a value and the number of entries of each map, as in 8:2,16:4 for two maps; the default is no maps"),
+    ("maps", Once("MAPS"), "With --hook, the bytes of a value and the entries of each map, as in 8:2,16:4; the default is no maps"),
     ("format", Once("FORMAT"), with_versions!("With --hook, the version of the image: ", " (the default) or ", ""))
 };
 
 /// The file of the policy that is run.
 const RUN_FILE: &[OptionText] = options! {
-    ("file", Alone("FILE"), "The policy: an image, its hex, or assembler text whose ;@ lines name its hook and maps; without it, or with -, standard input is read")
+    ("file", Alone("FILE"), "The policy: an image, its hex, or assembler text with ;@ lines; without it, or with -, standard input is read")
 };
 
 /// The file of the policy that is listed.
 const DIS_FILE: &[OptionText] = options! {
-    ("file", Alone("FILE"), "The policy: an image, its hex, or assembler text whose ;@ lines name its hook and maps; - is standard input. Without a file, standard input is read: with an option in any of these forms, without one only as the hex of a program")
+    ("file", Alone("FILE"), "The policy: an image, its hex, or assembler text with ;@ lines; - or no file is standard input (without any option, only hex)")
 };
 
 /// The files of the policies that are judged.
 const CHECK_FILES: &[OptionText] = options! {
-    ("file", Several("FILE"), "The policies: each an image, its hex, or assembler text whose ;@ lines name its hook and maps; - is standard input. Without a file, standard input is read: with an option in any of these forms, without one only as the hex of an image")
+    ("file", Several("FILE"), "Policies: images, their hex, or assembler texts with ;@ lines; - or no file is standard input (without any option, only hex)")
 };
 
 /// What help says of a limit on files that are read whole.
@@ -121,7 +121,7 @@ const LIMIT_OPTIONS: &[OptionText] = options! {
 /// What the file of a policy leaves unsaid.
 const POLICY_OPTIONS: &[OptionText] = options! {
     ("hook", Once("HOOK"), with_hooks!("The policy's hook, if the file does not say it: ")),
-    ("maps", Once("MAPS"), "The bytes of a value and the number of entries of each map, if the file does not say them, as in 8:2,16:4 for two maps; the default is no maps"),
+    ("maps", Once("MAPS"), "The bytes of a value and the entries of each map, if the file does not say them, as in 8:2,16:4; the default is no maps"),
     ("format", Once("FORMAT"), with_versions!("The version of the image, if the file does not say it: ", " (the default) or ", ""))
 };
 
@@ -146,24 +146,24 @@ const DIS_OPTIONS: &[OptionText] = options! {
 /// What a run begins with.
 const INPUT_OPTIONS: &[OptionText] = options! {
     ("ctx", Once("HEX"), "The whole context, in hex; the default is all 0"),
-    ("set", Often("FIELDS"), "Fields of the context by their names, as in task=3,mask=0x6,previous=none; the others are as --ctx has them, and you may repeat it. docs/CONTEXTS.md lists the names, as does the error for a wrong one"),
-    ("map", Often("ENTRY"), "The first bytes of an entry of a map, in hex, as in 0:2=0a00 for entry 2 of map 0; the other bytes are 0, and you may repeat it"),
+    ("set", Often("FIELDS"), "Fields of the context by their names, as in task=3,mask=0x6,previous=none; a wrong name lists them; you may repeat it"),
+    ("map", Often("ENTRY"), "The first bytes of an entry, in hex, as in 0:2=0a00 for entry 2 of map 0; the others are 0; you may repeat it"),
     ("time", Once("T"), with_helper!(NOW, "The time that helper ", " answers: nanoseconds, or a number with its unit, as in 1500us, 1.5ms or 2s; the default is 0")),
     ("processor", Once("P"), with_helper!(PROCESSOR, "The processor that helper ", " answers; the default is 0")),
-    ("counter", Often("COUNTER"), "The value of a counter before the run, as in 3=10 for counter 3; the default is 0, and you may repeat it")
+    ("counter", Often("COUNTER"), "The value of a counter before the run, as in 3=10 for counter 3; the default is 0; you may repeat it")
 };
 
 /// How a run is reported.
 const RUN_OPTIONS: &[OptionText] = options! {
     ("trace", Flag, "Writes each instruction that the run executes, its place and the registers that it changes"),
-    ("repeat", Once("N"), "Runs the policy N times, each on the maps and counters that the run before left, and shows the last run, the changed entries and the mean time of a run")
+    ("repeat", Once("N"), "Runs the policy N times, each on what the run before left, and shows the last run, changed entries and mean time")
 };
 
 /// The program of `import`, and the image that it is for.
 const IMPORT_OPTIONS: &[OptionText] = options! {
     ("file", Alone("FILE"), "The object file, or the bytes or the hex of its text section; without it, or with -, standard input is read"),
     ("hook", Needed("HOOK"), with_hooks!("The policy's hook: ")),
-    ("maps", Once("MAPS"), "The bytes of a value and the number of entries of each map, as in 8:2,16:4 for two maps; the default is no maps"),
+    ("maps", Once("MAPS"), "The bytes of a value and the entries of each map, as in 8:2,16:4; the default is no maps"),
     ("format", Once("FORMAT"), with_versions!("The version of the image: ", " (the default) or ", ""))
 };
 
@@ -188,8 +188,8 @@ const TIMELINE_FORM: &[OptionText] = options! {
 /// The part of a schedule that is shown.
 const PART_OPTIONS: &[OptionText] = options! {
     SHOWN;
-    ("from", Once("TIME"), "Shows only what happens from this time on (a number with its unit, as in 1500us, 1.5ms or 2s); not with report or json, whose figures are those of the whole"),
-    ("to", Once("TIME"), "Shows only what happens up to this time; written as for --from, and not with report or json either"),
+    ("from", Once("TIME"), "Shows only what happens from this time on, as in 1500us, 1.5ms or 2s; not for report or json"),
+    ("to", Once("TIME"), "Shows only what happens up to this time; not for report or json"),
     ("cpus", Once("LIST"), "Shows only these processors, as in 0-3,8"),
     ("tasks", Once("LIST"), "Shows only these tasks, as in 1-3,editor: numbers, ranges, and names that do not begin with a digit"),
     ("width", Once("COLUMNS"), with_columns!("How wide a map may be, in columns; the default is ", "")),
@@ -215,16 +215,15 @@ const MACHINE_OPTIONS: &[OptionText] = options! {
 macro_rules! hook_help {
     ($decides:literal) => {
         concat!(
-            "The policy that decides ",
-            $decides,
-            ": a file that bqsim check accepts, or none (the default) for the discipline's own choice"
+            "Decides ",
+            $decides
         )
     };
 }
 
 /// The policies of `simulate`.
 const HOOK_OPTIONS: &[OptionText] = options! {
-    "Policies";
+    "Policies, each a file that bqsim check accepts, or none (the default) for the discipline's own choice";
     ("place", Once("POLICY"), hook_help!("where a woken task goes")),
     ("preempt", Once("POLICY"), hook_help!("whether the running task gives way")),
     ("pull", Once("POLICY"), hook_help!("which task another processor pulls"))
@@ -233,8 +232,8 @@ const HOOK_OPTIONS: &[OptionText] = options! {
 /// The seeds of `simulate`, and the policies that its own are compared with.
 const COMPARING_OPTIONS: &[OptionText] = options! {
     "Several runs";
-    ("seeds", Once("N"), "Runs the workload with N seeds, counted up from its own, and shows means and standard deviations, as report, csv or json"),
-    ("against", Often("POLICY"), "Runs the same seeds again with this policy instead, or with none, and shows both side by side; repeat it for a policy at another hook")
+    ("seeds", Once("N"), "Runs the workload with N seeds, counted up from its own, and shows means and standard deviations"),
+    ("against", Often("POLICY"), "Runs the same seeds again with this policy or none instead, and shows both; repeat it for another hook")
 };
 
 /// The form of `simulate`.
@@ -261,7 +260,7 @@ static SCHEDULE_COMMANDS: [CommandText<'static>; 2] = [
             "\n  trace     The events of the whole run, for replay and timeline to read";
             "bqsim simulate workloads/desktop.toml",
             "bqsim simulate --discipline eevdf --as map --to 100ms workloads/desktop.toml",
-            "bqsim simulate --as svg workloads/desktop.toml > desktop.svg",
+            "bqsim simulate --as svg --to 100ms workloads/desktop.toml > desktop.svg",
             "bqsim simulate --preempt policies/heavier_first.s examples/lab/editor.toml",
             "bqsim simulate --seeds 10 --preempt policies/heavier_first.s --against none examples/lab/editor.toml";
             "docs/WORKLOADS.md  What a workload may say",
@@ -404,7 +403,7 @@ pub fn program<'a>(alloc: Global) -> Result<Command<'a>, AllocError>
             "  3  Memory ran out",
             "  4  A read or a write failed, a file can't be opened, or a limit is passed";
             "bqsim simulate workloads/desktop.toml",
-            "bqsim simulate --as svg workloads/desktop.toml > desktop.svg",
+            "bqsim simulate --as svg --to 100ms workloads/desktop.toml > desktop.svg",
             "bqsim timeline --as map examples/four_tasks_cfs.trace",
             "bqsim check --explain policies/keep_home.s",
             "bqsim simulate --seeds 10 --preempt policies/heavier_first.s --against none examples/lab/editor.toml";
