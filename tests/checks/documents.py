@@ -132,6 +132,8 @@ def wrong(command, status, written):
     """What is wrong with what a command wrote; nothing where it is as shown."""
     if status and not command.shown:
         return f"status 0 was expected, and {status} came\n{cut(written.splitlines()[-10:])}"
+    if not 0 <= status <= 4:  # the program has the statuses 0 to 4
+        return f"a status from 0 to 4 was expected, and {status} came\n{cut(written.splitlines()[-10:])}"
     if command.shown is None:
         return ""
     shown, came = [steady(line) for line in command.shown], steady(written)

@@ -171,7 +171,7 @@ fn length_read(alloc: Global) -> Result<usize, LoadFault> {
 /// If no allocation is refused, all is as above. `rt try --test --fail-alloc N`, which is run manually, refuses the Nth: then the answer
 /// is that memory ran out, nothing has changed, and the same call gives the answer.
 #[test]
-fn a_refused_growth_changes_nothing(rt: HostRuntime) {
+fn the_same_calls_give_the_answer_in_the_end(rt: HostRuntime) {
     let alloc = rt.alloc();
     loads_at_last(&rt, alloc);
     ends(&rt, budget(alloc, &COUNTING[..135]), Err(LoadFault::Cut));
