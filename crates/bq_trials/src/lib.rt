@@ -20,6 +20,8 @@ mod examples;
 #[cfg(test)]
 mod failing;
 #[cfg(test)]
+mod limits;
+#[cfg(test)]
 mod one_verdict;
 #[cfg(test)]
 mod places;
