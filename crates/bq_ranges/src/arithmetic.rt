@@ -9,7 +9,7 @@ use crate::range::{Range, greatest, sign};
 use bq_bpf::words;
 use bq_insn::{Operation, Width};
 
-/// A range that has all results of an arithmetic instruction (RFC 9669 section 4.1) on members of the two
+/// Returns a range that has all results of an arithmetic instruction (RFC 9669 section 4.1) on members of the two
 /// ranges.
 ///
 /// Single words give a single word, and AND goes no higher than its lesser operand. The answer is the least such range
@@ -28,7 +28,7 @@ pub fn alu(width: Width, op: Operation, a: Range, b: Range) -> Range
     outcomes(width, op, a.low(width), b.low(width))
 }
 
-// The results on operands that fit the width.
+/// Returns a range that has all results of an arithmetic instruction on members of two ranges that fit the width.
 fn outcomes(width: Width, op: Operation, a: Range, b: Range) -> Range
     requires left { a.hi < modulus width }
     requires right { b.hi < modulus width }
@@ -55,7 +55,7 @@ fn outcomes(width: Width, op: Operation, a: Range, b: Range) -> Range
     }
 }
 
-/// The wrapping sums of members; the least range if none wraps.
+/// Returns a range that has all wrapping sums of members; the least such range if no sum wraps.
 pub fn add(width: Width, a: Range, b: Range) -> Range
     requires left { a.hi < modulus width }
     requires right { b.hi < modulus width }
@@ -79,7 +79,7 @@ pub fn add(width: Width, a: Range, b: Range) -> Range
     }
 }
 
-/// The wrapping differences of members; the least range if none wraps.
+/// Returns a range that has all wrapping differences of members; the least such range if no difference wraps.
 pub fn sub(width: Width, a: Range, b: Range) -> Range
     requires left { a.hi < modulus width }
     requires right { b.hi < modulus width }
@@ -103,6 +103,7 @@ pub fn sub(width: Width, a: Range, b: Range) -> Range
     }
 }
 
+/// Returns a range that has all wrapping products of members; the least such range if no product wraps.
 fn mul(width: Width, a: Range, b: Range) -> Range
     requires left { a.hi < modulus width }
     requires right { b.hi < modulus width }
@@ -121,7 +122,7 @@ fn mul(width: Width, a: Range, b: Range) -> Range
     Range::full(width)
 }
 
-// A quotient by zero is 0.
+/// Returns a range that has all quotients of members; a quotient by zero is 0.
 fn div(a: Range, b: Range) -> Range
     ensures zero { (x : ℕ) → Within a x → Within b 0 → Within result 0 }
     ensures holds { (x y : ℕ) → Within a x → Within b y → 0 < y → Within result (x / y) }
@@ -136,6 +137,7 @@ fn div(a: Range, b: Range) -> Range
     }
 }
 
+/// Returns a range that has all results of OR on members.
 fn or(width: Width, a: Range, b: Range) -> Range
     requires left { a.hi < modulus width }
     requires right { b.hi < modulus width }
@@ -147,6 +149,7 @@ fn or(width: Width, a: Range, b: Range) -> Range
     }
 }
 
+/// Returns a range that has all results of XOR on members.
 fn xor(width: Width, a: Range, b: Range) -> Range
     requires left { a.hi < modulus width }
     requires right { b.hi < modulus width }
@@ -158,7 +161,9 @@ fn xor(width: Width, a: Range, b: Range) -> Range
     }
 }
 
-// The union of the bits of two words is not above their sum, and has no bit above the highest bit of both.
+/// Bounds the union of the bits of two members, one of each range.
+///
+/// The union is not above the sum of the words, and has no bit above the highest bit of both.
 fn highest(width: Width, a: Range, b: Range) -> u64
     requires left { a.hi < modulus width }
     requires right { b.hi < modulus width }
@@ -170,6 +175,7 @@ fn highest(width: Width, a: Range, b: Range) -> u64
     a.hi.saturating_add(b.hi).min(most)
 }
 
+/// Returns a range that has all results of AND on members and goes no higher than either operand.
 fn and(a: Range, b: Range) -> Range
     ensures holds { (x y : ℕ) → Within a x → Within b y → Within result (bit_and x y) }
     ensures left { result.hi ≤ a.hi }
@@ -182,6 +188,7 @@ fn and(a: Range, b: Range) -> Range
     }
 }
 
+/// Returns a range that has all wrapping shifts to the left of members of `a` by members of `b`.
 fn lsh(width: Width, a: Range, b: Range) -> Range
     requires left { a.hi < modulus width }
     ensures { (x y : ℕ) → Within a x → Within b y → Within result ((x * 2 ^ (y % bit_count width)) % modulus width) }
@@ -196,6 +203,7 @@ fn lsh(width: Width, a: Range, b: Range) -> Range
     Range::full(width)
 }
 
+/// Returns a range that has all shifts to the right of members of `a` by members of `b`; the least such range if `b` has one word.
 fn rsh(width: Width, a: Range, b: Range) -> Range
     ensures holds { (x y : ℕ) → Within a x → Within b y → Within result (x / 2 ^ (y % bit_count width)) }
     ensures below { result.hi ≤ a.hi }
@@ -212,8 +220,10 @@ fn rsh(width: Width, a: Range, b: Range) -> Range
     Range { lo: 0, hi: a.hi }
 }
 
-// Words without the sign bit shift like numbers. Words with the sign bit shift like numbers that count down from the
-// greatest word.
+/// Returns a range that has all results of arithmetic shifts to the right of members of `a` by members of `b`.
+///
+/// Words without the sign bit shift like numbers. Words with the sign bit shift like numbers that count down from the
+/// greatest word.
 fn arsh(width: Width, a: Range, b: Range) -> Range
     requires left { a.hi < modulus width }
     ensures { (x y : ℕ) → Within a x → Within b y → Within result (operate width Operation.Arsh x y % modulus width) }
@@ -233,6 +243,7 @@ fn arsh(width: Width, a: Range, b: Range) -> Range
     }
 }
 
+/// Returns the number of bits of a width.
 fn bits(width: Width) -> u64
     ensures { result ≡ bit_count width }
 {
@@ -242,7 +253,7 @@ fn bits(width: Width) -> u64
     }
 }
 
-// A remainder by zero is the dividend.
+/// Returns a range that has all remainders of members; a remainder by zero is the dividend.
 fn rem(a: Range, b: Range) -> Range
     ensures zero { (x : ℕ) → Within a x → Within b 0 → Within result x }
     ensures holds { (x y : ℕ) → Within a x → Within b y → 0 < y → Within result (x % y) }

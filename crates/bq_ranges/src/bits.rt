@@ -4,7 +4,7 @@ ghost use Rattle.bq_ranges.specs.Within.{Within};
 
 use crate::range::Range;
 
-/// The least number that is not below the word and has no unset bit below a set one.
+/// Returns the least number that is not below the word and has no unset bit below a set one.
 pub fn ones(word: u64) -> u64
     ensures ones { (k : ℕ) × (result + 1 ≡ 2 ^ k) × (2 ^ k ≤ 2 * word + 1) }
     ensures above { word ≤ result }
@@ -16,8 +16,9 @@ pub fn ones(word: u64) -> u64
     (1 << (64 - zeros)) - 1
 }
 
-/// A bound on what an AND with a word of `mask` gives, if the AND is at most `most`. If `mask` is a single word, its
-/// low zero bits make the bound smaller.
+/// Bounds what an AND with a word of `mask` gives, if the AND is at most `most`.
+///
+/// If `mask` is a single word, its low zero bits make the bound smaller.
 pub fn multiple_within(most: u64, mask: Range) -> u64
     ensures below { result ≤ most }
     ensures holds { (x y : ℕ) → Within mask y → bit_and x y ≤ most → bit_and x y ≤ result }

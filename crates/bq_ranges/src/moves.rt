@@ -8,7 +8,7 @@ use crate::range::{Range, greatest};
 use bq_bpf::words;
 use bq_insn::{Bits, Order, Width};
 
-/// A range that has the negations of all words of the range (RFC 9669 section 4.1, NEG).
+/// Returns a range that has the negations of all words of the range (RFC 9669 section 4.1, NEG).
 pub fn neg(width: Width, a: Range) -> Range
     ensures holds { (x : ℕ) → Within a x → Within result (negated width x) }
     ensures single_low { a.lo ≡ a.hi → result.lo ≡ negated width a.lo }
@@ -20,8 +20,8 @@ pub fn neg(width: Width, a: Range) -> Range
     sub(width, Range::single(0), a.low(width))
 }
 
-/// A range that has the low bits of all words of the range, with their sign extended over the width (RFC 9669 section
-/// 4.1, MOVSX).
+/// Returns a range that has the low bits of all words of the range, with their sign extended over the width (RFC 9669
+/// section 4.1, MOVSX).
 pub fn extend(width: Width, bits: Bits, a: Range) -> Range
     ensures holds { (x : ℕ) → Within a x → Within result (extended width bits x) }
     ensures single_low { a.lo ≡ a.hi → result.lo ≡ extended width bits a.lo }
@@ -36,7 +36,7 @@ pub fn extend(width: Width, bits: Bits, a: Range) -> Range
     Range::full(width)
 }
 
-/// A range that has the low bits of all words of the range, in that byte order (RFC 9669 section 4.2).
+/// Returns a range that has the low bits of all words of the range, in that byte order (RFC 9669 section 4.2).
 pub fn reorder(order: Order, bits: Bits, a: Range) -> Range
     ensures holds { (x : ℕ) → Within a x → Within result (reordered order bits x) }
     ensures single_low { a.lo ≡ a.hi → result.lo ≡ reordered order bits a.lo }

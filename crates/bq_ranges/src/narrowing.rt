@@ -9,8 +9,8 @@ use crate::range::{Range, greatest};
 use crate::signed::narrow_signed;
 use bq_insn::{Condition, Width};
 
-/// A range that has every member of `x` for which the test against some member of `y` comes out as `goes` says;
-/// `None` only if no member does.
+/// Narrows `x` to a range that has each member for which the test against some member of `y` comes out as `goes` says;
+/// returns `None` only if there is no such member.
 ///
 /// For tests by order or equality in 64 bits against a single word, signed or not, the answer is the least such range.
 pub fn narrow(cond: Condition, width: Width, x: Range, y: Range, goes: bool) -> Option<Range>
@@ -30,8 +30,8 @@ pub fn narrow(cond: Condition, width: Width, x: Range, y: Range, goes: bool) -> 
     }
 }
 
-/// A range that has every member of `y` for which the test of some member of `x` against it comes out as `goes`
-/// says; all of `y` if `narrow` finds none.
+/// Narrows `y` to a range that has each member for which the test of some member of `x` against it comes out as `goes`
+/// says; returns all of `y` if `narrow` finds none.
 pub fn narrow_right(cond: Condition, width: Width, x: Range, y: Range, goes: bool) -> Range
     ensures { (a b : ℕ) → Within x a → Within y b → taken width cond a b ≡ goes → Within result b }
 {
@@ -41,7 +41,7 @@ pub fn narrow_right(cond: Condition, width: Width, x: Range, y: Range, goes: boo
     }
 }
 
-// The test that answers the same with its operands exchanged.
+/// Returns the test that answers the same with its operands exchanged.
 fn turned(cond: Condition) -> Condition
     ensures { (width : Wide) (a b : ℕ) → taken width cond a b ≡ taken width result b a }
 {
@@ -60,7 +60,9 @@ fn turned(cond: Condition) -> Condition
     }
 }
 
-// If two words have no bit in common, their sum is at most the greatest word of the width.
+/// Narrows `x` by the test whether it has a bit in common with a member of `y`.
+///
+/// If two words have no bit in common, their sum is at most the greatest word of the width.
 fn narrow_bits(width: Width, x: Range, y: Range, goes: bool) -> Option<Range>
     requires left { x.hi < modulus width }
     requires right { y.hi < modulus width }
@@ -72,6 +74,7 @@ fn narrow_bits(width: Width, x: Range, y: Range, goes: bool) -> Option<Range>
     at_most(x, greatest(width) - y.lo)
 }
 
+/// Tells whether the test compares signed numbers.
 fn is_signed(cond: Condition) -> bool
     ensures { IsTrue result ↔ IsSigned cond }
 {
@@ -84,6 +87,7 @@ fn is_signed(cond: Condition) -> bool
     }
 }
 
+/// Narrows `x` by a test for equality or unsigned order against a member of `y`; keeps all of `x` for any other test.
 fn narrow_words(cond: Condition, x: Range, y: Range, goes: bool) -> Option<Range>
     ensures holds { (a b : ℕ) → Within x a → Within y b → taken Width.W64 cond a b ≡ goes → NarrowsTo result a }
     ensures least { IsByOrder cond → y.lo ≡ y.hi → EndsTestAs cond x y.lo goes result }
@@ -105,6 +109,7 @@ fn narrow_words(cond: Condition, x: Range, y: Range, goes: bool) -> Option<Range
     }
 }
 
+/// Returns the words that both ranges have, or `None` if there are none.
 pub(crate) fn common(x: Range, y: Range) -> Option<Range>
     ensures holds { (a : ℕ) → Within x a → Within y a → NarrowsTo result a }
     ensures ends { EndsAre (λ a. Within x a × Within y a) result }
@@ -117,7 +122,9 @@ pub(crate) fn common(x: Range, y: Range) -> Option<Range>
     Some(Range { lo, hi })
 }
 
-// If the words differ, a range can lose only one of its ends.
+/// Narrows `x` to the members that differ from some member of `y`, or returns `None` if there are none.
+///
+/// Only a single word narrows it, and then only if the word is one of its ends.
 fn apart(x: Range, y: Range) -> Option<Range>
     ensures holds { (a b : ℕ) → Within x a → Within y b → a ≢ b → NarrowsTo result a }
     ensures ends { y.lo ≡ y.hi → EndsAre (λ a. Within x a × (a ≢ y.lo)) result }
@@ -141,6 +148,7 @@ fn apart(x: Range, y: Range) -> Option<Range>
     Some(Range { lo, hi })
 }
 
+/// Narrows `x` to the members that are at most the bound, or returns `None` if there are none.
 fn at_most(x: Range, bound: u64) -> Option<Range>
     ensures holds { (a : ℕ) → Within x a → a ≤ bound → NarrowsTo result a }
     ensures ends { EndsAre (λ a. Within x a × (a ≤ bound)) result }
@@ -154,6 +162,7 @@ fn at_most(x: Range, bound: u64) -> Option<Range>
     })
 }
 
+/// Narrows `x` to the members that are below the bound, or returns `None` if there are none.
 fn below(x: Range, bound: u64) -> Option<Range>
     ensures holds { (a : ℕ) → Within x a → a < bound → NarrowsTo result a }
     ensures ends { EndsAre (λ a. Within x a × (a < bound)) result }
@@ -164,6 +173,7 @@ fn below(x: Range, bound: u64) -> Option<Range>
     at_most(x, bound - 1)
 }
 
+/// Narrows `x` to the members that are at least the bound, or returns `None` if there are none.
 fn at_least(x: Range, bound: u64) -> Option<Range>
     ensures holds { (a : ℕ) → Within x a → bound ≤ a → NarrowsTo result a }
     ensures ends { EndsAre (λ a. Within x a × (bound ≤ a)) result }
@@ -177,6 +187,7 @@ fn at_least(x: Range, bound: u64) -> Option<Range>
     })
 }
 
+/// Narrows `x` to the members that are above the bound, or returns `None` if there are none.
 fn above(x: Range, bound: u64) -> Option<Range>
     ensures holds { (a : ℕ) → Within x a → bound < a → NarrowsTo result a }
     ensures ends { EndsAre (λ a. Within x a × (bound < a)) result }

@@ -18,7 +18,7 @@ impl Range {
     ghost use Rattle.bq_bpf.specs.Meaning.{modulus_of_bits};
     ghost use Rattle.bq_ranges.specs.Within.{Within};
 
-    /// The range of one word.
+    /// Returns the range of one word.
     pub fn single(word: u64) -> Range
         ensures lo { result.lo ≡ word }
         ensures hi { result.hi ≡ word }
@@ -26,7 +26,7 @@ impl Range {
         Range { lo: word, hi: word }
     }
 
-    /// The range of all words of a width.
+    /// Returns the range of all words of a width.
     pub fn full(width: Width) -> Range
         ensures lo { result.lo ≡ 0 }
         ensures hi { result.hi + 1 ≡ modulus width }
@@ -37,7 +37,7 @@ impl Range {
         }
     }
 
-    /// The range of all words of this many low bits.
+    /// Returns the range of all words that have no bit above the low `bits`.
     pub fn of_bits(bits: Bits) -> Range
         ensures lo { result.lo ≡ 0 }
         ensures hi { result.hi + 1 ≡ modulus_of_bits bits }
@@ -51,14 +51,14 @@ impl Range {
         Range { lo: 0, hi }
     }
 
-    /// Whether the range has only one word.
+    /// Tells whether the range has only one word.
     pub fn is_single(self) -> bool
         ensures { IsTrue result ↔ (self.lo ≡ self.hi) }
     {
         self.lo == self.hi
     }
 
-    /// The least range that has all words of both ranges.
+    /// Returns the least range that has all words of both ranges.
     pub fn hull(self, other: Range) -> Range
         ensures left { (x : ℕ) → Within self x → Within result x }
         ensures right { (x : ℕ) → Within other x → Within result x }
@@ -71,7 +71,7 @@ impl Range {
         }
     }
 
-    /// The words that both ranges have; the whole range itself if there are none.
+    /// Returns the words that both ranges have; the whole range itself if there are none.
     pub fn meet(self, other: Range) -> Range
         ensures both { (x : ℕ) → Within self x → Within other x → Within result x }
         ensures lo { self.lo ≤ result.lo }
@@ -86,7 +86,7 @@ impl Range {
         Range { lo, hi }
     }
 
-    /// The least range of the low bits of all words.
+    /// Returns the least range that has the low bits, as many as the width has, of all words of the range.
     pub fn low(self, width: Width) -> Range
         ensures holds { (x : ℕ) → Within self x → Within result (x % modulus width) }
         ensures fits { result.hi < modulus width }
@@ -100,7 +100,9 @@ impl Range {
         }
     }
 
-    // If the range crosses a multiple of 2^32, the low halves of its words include ffffffff and 0.
+    /// Returns the least range that has the low 32 bits of all words of the range.
+    ///
+    /// If the range crosses a multiple of 2^32, the low halves of its words include ffffffff and 0.
     fn low_half(self) -> Range
         ensures holds { (x : ℕ) → Within self x → Within result (x % 2 ^ 32) }
         ensures fits { result.hi < 2 ^ 32 }
@@ -121,7 +123,7 @@ impl Range {
     }
 }
 
-/// The greatest word of a width.
+/// Returns the greatest word of a width.
 pub fn greatest(width: Width) -> u64
     ensures { result + 1 ≡ modulus width }
 {
@@ -131,7 +133,7 @@ pub fn greatest(width: Width) -> u64
     }
 }
 
-/// The least word of a width that is below zero as a signed number.
+/// Returns the word of a width that has only the sign bit: as a signed number, the least of all.
 pub fn sign(width: Width) -> u64
     ensures { 2 * result ≡ modulus width }
 {

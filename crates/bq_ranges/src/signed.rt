@@ -9,8 +9,8 @@ use crate::narrowing::common;
 use crate::range::{Range, sign};
 use bq_insn::{Condition, Width};
 
-/// A range that has every member of `x` for which the test against some member of `y` comes out as `goes` says,
-/// if both ranges fit the width; `None` only if no member does.
+/// Narrows `x` to a range that has each member for which the test against some member of `y` comes out as `goes` says,
+/// if both ranges fit the width; returns `None` only if there is no such member.
 ///
 /// Against a single word the answer is the least such range.
 pub fn narrow_signed(cond: Condition, width: Width, x: Range, y: Range, goes: bool) -> Option<Range>
@@ -33,7 +33,7 @@ pub fn narrow_signed(cond: Condition, width: Width, x: Range, y: Range, goes: bo
     }
 }
 
-// The member that is greatest as a signed number.
+/// Returns the member that is greatest as a signed number; `half` is the word with only the sign bit.
 fn highest(y: Range, half: u64) -> u64
     requires { 0 < half }
     ensures above { (b : ℕ) → Within y b → IsSignedAtMost half b result }
@@ -45,7 +45,7 @@ fn highest(y: Range, half: u64) -> u64
     y.hi
 }
 
-// The member that is least as a signed number.
+/// Returns the member that is least as a signed number; `half` is the word with only the sign bit.
 fn lowest(y: Range, half: u64) -> u64
     ensures below { (b : ℕ) → Within y b → IsSignedAtMost half result b }
     ensures within { Within y result }
@@ -56,6 +56,7 @@ fn lowest(y: Range, half: u64) -> u64
     y.lo
 }
 
+/// Narrows `x` to the members that are at most the bound as signed numbers, or returns `None` if there are none.
 fn at_most(x: Range, bound: u64, half: u64) -> Option<Range>
     requires { 0 < half }
     ensures holds { (a : ℕ) → Within x a → IsSignedAtMost half a bound → NarrowsTo result a }
@@ -73,6 +74,7 @@ fn at_most(x: Range, bound: u64, half: u64) -> Option<Range>
     )
 }
 
+/// Narrows `x` to the members that are below the bound as signed numbers, or returns `None` if there are none.
 fn below(x: Range, bound: u64, half: u64) -> Option<Range>
     requires { 0 < half }
     ensures holds { (a : ℕ) → Within x a → IsSignedBelow half a bound → NarrowsTo result a }
@@ -93,6 +95,7 @@ fn below(x: Range, bound: u64, half: u64) -> Option<Range>
     )
 }
 
+/// Narrows `x` to the members that are at least the bound as signed numbers, or returns `None` if there are none.
 fn at_least(x: Range, bound: u64, half: u64) -> Option<Range>
     requires { 0 < half }
     ensures holds { (a : ℕ) → Within x a → IsSignedAtMost half bound a → NarrowsTo result a }
@@ -110,6 +113,7 @@ fn at_least(x: Range, bound: u64, half: u64) -> Option<Range>
     )
 }
 
+/// Narrows `x` to the members that are above the bound as signed numbers, or returns `None` if there are none.
 fn above(x: Range, bound: u64, half: u64) -> Option<Range>
     requires { 0 < half }
     ensures holds { (a : ℕ) → Within x a → IsSignedBelow half bound a → NarrowsTo result a }
@@ -139,7 +143,7 @@ fn above(x: Range, bound: u64, half: u64) -> Option<Range>
     )
 }
 
-// A range that has the members below `from` and the members from `to` on.
+/// Narrows `x` to a range that has the members below `from` and the members from `to` on, or returns `None` if there are none.
 fn outside(x: Range, from: u64, to: u64) -> Option<Range>
     ensures holds { (a : ℕ) → Within x a → (a < from) ⊎ (to ≤ a) → NarrowsTo result a }
     ensures ends { EndsAre (λ a. Within x a × ((a < from) ⊎ (to ≤ a))) result }
