@@ -6,8 +6,6 @@ use Rattle.std.specs.Cmp.{booleans_Decides}
 use Rattle.std.proofs.lemmas.Bool.Decides.{Decides-and, Decides-eqb, Decides-like}
 use Rattle.std.specs.Option.{option_eq}
 use denote.Enum.Bare.{sameb, same_true, true_same}
-use Rattle.bq_insn.specs.declared.Condition.{Condition}
-use Rattle.bq_insn.specs.declared.Width.{Width}
 use Rattle.bq_insn.specs.contracts.Condition as condition
 use Rattle.bq_insn.specs.contracts.Width as width
 use Rattle.bq_states.specs.declared.relations.Related.{Related}
@@ -37,13 +35,7 @@ no_relation_outlives class = record { has = λ word other same h. h }
 pub sum_right : (a b n : ℕ) → n < 2 ^ 64 → Relates (Sum n) a b → b ≡ (a + (2 ^ 64 - n)) % 2 ^ 64
 sum_right a b n small so = omega (arith, so.left, so.right, so.is)
 
--- the `==` of conditions, of widths and of relations decides whether the two are equal:
-condition_decides : (a b : Condition) → Decides (sameb condition.the_type a b) (a ≡ b)
-condition_decides a b = (same_true condition.the_type tt a b, true_same condition.the_type a b)
-
-width_decides : (a b : Width) → Decides (sameb width.the_type a b) (a ≡ b)
-width_decides a b = (same_true width.the_type tt a b, true_same width.the_type a b)
-
+-- the `==` of relations decides whether the two are equal
 relation_decides : (a b : Relation) → Decides (same_relation.eq-value.it a b) (a ≡ b)
 relation_decides (Sum n) (Sum m) = Decides-like (n == m) (λ (p : n ≡ m). ap Sum p) (λ e. cc) (Decides-eqb n m)
 relation_decides (Sum n) (Compared v d h) = ((λ e. absurd (cc)), (λ e. absurd (cc)))
@@ -51,8 +43,8 @@ relation_decides (Compared w c g) (Sum m) = ((λ e. absurd (cc)), (λ e. absurd 
 relation_decides (Compared w c g) (Compared v d h) =
     Decides-like (sameb width.the_type w v && (sameb condition.the_type c d && beq g h))
     (λ (p : (w ≡ v) × ((c ≡ d) × (g ≡ h))). λ i. Compared (p.0 i) (p.1.0 i) (p.1.1 i)) (λ e. ((cc), ((cc), (cc))))
-    (Decides-and (sameb width.the_type w v) (sameb condition.the_type c d && beq g h) (width_decides w v)
-    (Decides-and (sameb condition.the_type c d) (beq g h) (condition_decides c d) (booleans_Decides g h)))
+    (Decides-and (sameb width.the_type w v) (sameb condition.the_type c d && beq g h) (same_true width.the_type tt w v, true_same width.the_type w v)
+    (Decides-and (sameb condition.the_type c d) (beq g h) (same_true condition.the_type tt c d, true_same condition.the_type c d) (booleans_Decides g h)))
 
 -- two relations of classes that `==` says are equal are equal
 related_same : (a b : Related) → same_related.eq-value.it a b ≡ true → a ≡ b

@@ -30,6 +30,7 @@ use Rattle.bq_transfer.specs.Transfers.{FindsPlace, IsWholeSlot, Stores, Transfe
 use Rattle.bq_states.proofs.StoreLemmas.{low_first_byte, stored_bytes}
 use Rattle.bq_states.specs.Copies.{AreCopies, HasWord}
 use Rattle.bq_states.proofs.AccessLemmas.{entry_inside}
+use Rattle.bq_states.proofs.LearntLemmas.{contains_copies}
 
 -- as many bytes as the store has
 pub low_long : (size : Size) (v : ℕ) → length (low_bytes size v) ≡ byte_count size
@@ -182,19 +183,6 @@ carries_imm shapes context_length dst off imm size k old new slot word stores f 
     let on = stores f s (word_of imm) suits contains (word f) in
     (next on.1, (on.0, on.1, on.2, on.3, refl), on.4, ap (λ (n : ℕ). n + 1) on.5)
 
--- an abstract state with other classes and relations, which are right
-pub contains_classes : (f : Setting) (v : AbstractState) (t : State) (classes : List ℕ) (related : List (Option Related))
-    → AreCopies classes related t → Contains f v t
-    → Contains f (record v { classes = classes; related = related }) t
-contains_classes f v t classes related copies contains = record {
-  registers = contains.registers;
-  set = contains.set;
-  kept = contains.kept;
-  parts = contains.parts;
-  maps = contains.maps;
-  copies = copies;
-}
-
 -- where a register can be stored, the instruction leads to the abstract state after it, with right classes and relations
 pub carries_reg : (shapes : List MapShape) (context_length dst src : ℕ) (off : ℤ) (size : Size) (k : AbstractValue)
     (old new : AbstractState) (slot : Option ℕ) (classes : List ℕ) (related : List (Option Related))
@@ -211,7 +199,7 @@ carries_reg shapes context_length dst src off size k old new slot classes relate
     let after = on.4 in (
       next on.1,
       (on.0, v.0, on.1, on.2, v.1, on.3, refl),
-      contains_classes f new (next on.1) classes related (linked (next on.1) v.0 after.copies is on.7) after,
+      contains_copies f new (next on.1) classes related (linked (next on.1) v.0 after.copies is on.7) after,
       ap (λ (n : ℕ). n + 1) on.5,
     )
 
