@@ -11,6 +11,7 @@ use Rattle.bq_verify.specs.Subjects.{Subject}
 use Rattle.bq_verify.specs.declared.cause.Cause.{Cause}
 use Rattle.bq_verify.specs.declared.refused.Refused.{Refused}
 use Rattle.bq_verify.specs.declared.refused.Refused.TheVariants as refused
+use Rattle.bq_verify.proofs.VerdictLemmas.{not_memory}
 use Rattle.bq_policy_file.specs.Subjects.{subject_in}
 use Rattle.bq_policy_file.specs.declared.policy_source.PolicySource.{PolicySource}
 use Rattle.bq_explain.specs.Verdicts.{IsAcceptedPolicy, IsRefusedPolicy}
@@ -26,10 +27,6 @@ accepted_policy p v slots shapes hook version faultless accepted longest =
       accepted = rw (sym slots, sym shapes, sym hook, sym version) accepted;
       longest = rw (sym slots) longest;
     }
-
--- a refusal at a slot wants no memory
-not_memory : (slot : ℕ) (cause : Cause) → refused.At slot cause ≡ refused.OutOfMemory → ⊥
-not_memory slot cause e = cc
 
 -- the verdict on what the policy is judged as is that on the policy
 pub refused_policy : (p : PolicySource) (judged : Subject) (answer : Refused) (slot : ℕ) (cause : Cause)

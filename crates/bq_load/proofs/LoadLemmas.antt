@@ -21,6 +21,7 @@ use Rattle.bq_verify.specs.Straight.{IsStraightProgram}
 use Rattle.bq_verify.specs.Subjects.{subject_of_insns}
 use Rattle.bq_verify.specs.declared.refused.Refused.{Refused}
 use Rattle.bq_verify.specs.declared.refused.Refused.TheVariants as refused
+use Rattle.bq_verify.proofs.VerdictLemmas.{not_memory}
 use Rattle.bq_insn.proofs.LengthLemmas.{well_formed_in_range}
 use Rattle.bq_load.specs.declared.fault.LoadFault.{LoadFault}
 use Rattle.bq_load.specs.declared.fault.LoadFault.TheVariants as fault
@@ -75,10 +76,6 @@ unloaded_program bytes s code (program.At slot cause) parts b = record {
   framed = parts.frames.framed;
   faulty = b;
 }
-
--- a refusal at a slot is not that memory ran out
-not_memory : (slot : ℕ) (cause : Cause) → refused.At slot cause ≡ refused.OutOfMemory → ⊥
-not_memory slot cause e = cc
 
 -- the verifier's verdict on the program of the image is answered, where that is not straight
 pub unloaded_refusal : (bytes : List ℕ) (s : Spelled) (code : List ℕ) (insns : List Insn)

@@ -10,6 +10,7 @@ use Rattle.bq_hooks.specs.declared.hook.Hook.{Hook}
 use Rattle.bq_hooks.specs.declared.hook.Hook.TheVariants.{Place, Preempt, Pull}
 use Rattle.bq_hooks.specs.declared.hook.Version.{Version}
 use Rattle.bq_hooks.specs.declared.hook.Version.TheVariants.{First, Second}
+use Rattle.bq_verify.specs.declared.cause.Cause.{Cause}
 use Rattle.bq_verify.specs.declared.cause.Cause.TheVariants.{Graph, State}
 use Rattle.bq_verify.specs.declared.policy_form.PolicyForm.{PolicyForm}
 use Rattle.bq_verify.specs.declared.refused.Refused.{Refused}
@@ -48,6 +49,10 @@ passable_program insns slots form same registers some short faultless = record {
 pub accepted_program : (p : Subject) (budget : ℕ) → CanBePassed p → StopsNowhere p → Safe p.slots p.shapes p.context budget
     → IsAccepted p.slots p.shapes p.context budget
 accepted_program p budget passable passed safe = record { short = passable.short; few = passable.few; passed = passed; safe = safe }
+
+-- a refusal at a slot is not that memory ran out
+pub not_memory : (slot : ℕ) (cause : Cause) → At slot cause ≡ OutOfMemory → ⊥
+not_memory slot cause e = cc
 
 -- the verdict of the checks of the control graph is one on the program
 pub verdict_of_graph : (p : Subject) (answer : Refused) → IsGraphVerdict p.slots answer → IsVerdictOn p answer
