@@ -13,6 +13,7 @@ use Rattle.std.specs.Option.{option_map, option_or}
 use Rattle.std.specs.Ordering.{nat_cmp}
 use Rattle.std.specs.Prelude.{◌==◌, find, flat_map}
 use Rattle.bq_disc.specs.Counts.{saturating_sum}
+use Rattle.bq_schedule.proofs.CountLemmas.{saturating_sum-both}
 use Rattle.bq_report.specs.declared.window.Window.{Window}
 use Rattle.bq_drawing.specs.declared.written_rows.WrittenRows.{WrittenRows}
 use Rattle.bq_drawing.specs.declared.lanes.TaskInterval.{TaskInterval}
@@ -51,10 +52,6 @@ unfolding lanes_after
 lanes_all room lanes items i whole none is =
     ap (λ (l : List ℕ). length l) (sym (ap (λ (l : List TaskInterval). lanes_after room lanes l) none) ∙ is)
 
--- two counts that are added in turn, up to the greatest number, are their sum added at once
-further : (n a b : ℕ) → saturating_sum (saturating_sum n a) b ≡ saturating_sum n (a + b)
-further n a b = omega arith
-
 -- one more that may find none
 pub left_more : (room : TaskInterval → TaskInterval) (lanes after : List ℕ) (items : List TaskInterval) (i : ℕ)
     (d place : TaskInterval) (lane : Option ℕ) (whole now next : ℕ)
@@ -69,7 +66,7 @@ left_more room lanes after items i d place lane whole now next there needs takes
     = keeps ∙ ap (λ (p : TaskInterval). lanes_taken lane p.to lanes) needs ∙ ap (λ (l : Option ℕ). lanes_taken l (room here).to lanes) own in
     let later = drop (i + 1) items in
     ap (λ n. saturating_sum n (left_out room after later)) (e ∙ ap (λ (l : Option ℕ). saturating_sum now (without_lane l)) own)
-    ∙ further now (without_lane (lane_of (room here) lanes)) (left_out room after later)
+    ∙ saturating_sum-both now (without_lane (lane_of (room here) lanes)) (left_out room after later)
     ∙ ap (λ (l : List ℕ). saturating_sum now (without_lane (lane_of (room here) lanes) + left_out room l later)) left
     ∙ sym (at_drop_more (λ (l : List TaskInterval). saturating_sum now (left_out room lanes l)) items i d there) ∙ is
 
@@ -147,7 +144,7 @@ more_left : (count : PlacedRow → ℕ) (placed : List PlacedRow) (next : Placed
     → new ≡ saturating_sum 0 (sum_by count (placed ++ next ∷ []))
 more_left count placed next old new before e =
     let sum : sum_by count (placed ++ next ∷ []) ≡ sum_by count placed + (0 + count next) = sum_by-append count placed (next ∷ []) in
-    e ∙ ap (λ n. saturating_sum n (count next)) before ∙ further 0 (sum_by count placed) (count next)
+    e ∙ ap (λ n. saturating_sum n (count next)) before ∙ saturating_sum-both 0 (sum_by count placed) (count next)
     ∙ ap (λ n. saturating_sum 0 n) (sym (sum ∙ ap (λ n. sum_by count placed + n) (omega arith)))
 
 -- no row is written yet

@@ -1,11 +1,11 @@
 -- The text of a map, a part behind another, and what its legend knows.
-use Rattle.std.proofs.Common.{◌≡◌, ◌≢◌, ◌∙◌, ◌↔◌, ℕ, zero, suc, ◌+◌, ◌<◌, ◌≤◌, Bool, true, false, cond, nat_lt, ◌&&◌, IsTrue, List, [], ◌∷◌, ◌++◌, length, get_or, set, take, Option, Contains, refl, sym, ap, subst, arith, append_assoc, append-nil, add-one, inl, inr}
+use Rattle.std.proofs.Common.{◌≡◌, ◌∙◌, ◌↔◌, ℕ, zero, suc, ◌+◌, ◌<◌, ◌≤◌, Bool, true, false, cond, nat_lt, ◌&&◌, IsTrue, List, [], ◌∷◌, ◌++◌, length, get_or, set, take, Option, Contains, refl, sym, ap, subst, arith, append_assoc, append-nil, add-one, inl, inr}
 use Rattle.std.specs.Prelude.{codes}
 use Rattle.std.specs.BTreeMap.{is_at}
 use Rattle.std.specs.BTreeSet.{contains}
 use Rattle.std.specs.Ordering.{nat_cmp}
 use Rattle.std.proofs.lemmas.Bool.{and_parts, cases_eq}
-use Rattle.std.proofs.lemmas.Bool.Decides.{Decides-ltb, nat_tests}
+use Rattle.std.proofs.lemmas.Bool.Decides.{Decides-ltb}
 use Rattle.std.proofs.lemmas.List.{get_or-set_other, length-set, take_more}
 use Rattle.std.proofs.lemmas.List.Concat.{flat_map-append}
 use Rattle.std.proofs.lemmas.List.Elements.{Contains-append_left, Contains-push, Contains-push_cases}
@@ -27,6 +27,7 @@ use Rattle.bq_report.specs.Names.{NamedTasks}
 use Rattle.bq_report.specs.Reports.{GrowsByPart, AreParts}
 use Rattle.bq_report.specs.Windows.{ShowsProcessor}
 use Rattle.bq_report.proofs.LongestLemmas.{time_pushed, time_pushed_other}
+use Rattle.bq_report.proofs.NameLemmas.{is_at-equal, is_at-other}
 use Rattle.bq_report.proofs.ReportLemmas.{AreParts-more, AreParts-none, AreParts-same, part_missing, part_there}
 
 -- whether each of these is a character of ASCII
@@ -83,13 +84,6 @@ runs_next e runs i d first then last lt before one =
     notes_of e (take i runs ++ (get_or runs i d ∷ [])) (take (i + 1) runs) [] [] first last (sym (take_more runs i d lt)) refl
     (notes_joined e (take i runs) (get_or runs i d ∷ []) [] [] first then last before one)
 
--- a key is found at an equal number, and at no other:
-here : (a b : ℕ) → a ≡ b → is_at (nat_cmp a) b ≡ true
-here a b is = grind (arith, nat_tests)
-
-apart : (a b : ℕ) → a ≢ b → is_at (nat_cmp a) b ≡ false
-apart a b not = grind (arith, nat_tests)
-
 -- among columns with one more at the end, any other than that one is among those before
 other_column : (before : List Column) (column wanted : Column)
     → ¬ (column ≡ wanted) → Contains (before ++ (column ∷ [])) wanted → Contains before wanted
@@ -135,9 +129,9 @@ notes_task e old new column task is sets same rest ran before known =
       tasks = λ q. elim (cases_eq task q) [
         | inl is ↦ subst (λ u. IsTrue (contains nat_cmp new.tasks u) ↔ Contains (before ++ (Task task ∷ [])) (Task u)) is
             (now_known (contains nat_cmp new.tasks task) before (Task task)
-            (sets task ∙ ap (λ b. cond b true (contains nat_cmp old.tasks task)) (here task task refl)))
+            (sets task ∙ ap (λ b. cond b true (contains nat_cmp old.tasks task)) (is_at-equal task task refl)))
         | inr not ↦ same_known (contains nat_cmp old.tasks q) (contains nat_cmp new.tasks q) before (Task task) (Task q)
-            (sets q ∙ ap (λ b. cond b true (contains nat_cmp old.tasks q)) (apart task q not)) (λ e. not (cc)) (known.tasks q)
+            (sets q ∙ ap (λ b. cond b true (contains nat_cmp old.tasks q)) (is_at-other task q not)) (λ e. not (cc)) (known.tasks q)
       ];
       hidden = same_known old.has_hidden new.has_hidden before (Task task) Hidden rest (λ e. cc) known.hidden;
     })
@@ -183,11 +177,11 @@ notes_run e old new run lasts sets tasks hidden ran before known =
     (λ q. elim (cases_eq run.task q) [
       | inl is ↦ (
         λ h. omega (arith, time_pushed e.from e.to ran run q is),
-        λ h. sets q ∙ ap (λ b. cond b true (contains nat_cmp old.ran q)) (here run.task q is),
+        λ h. sets q ∙ ap (λ b. cond b true (contains nat_cmp old.ran q)) (is_at-equal run.task q is),
       )
       | inr not ↦
           let same : contains nat_cmp new.ran q ≡ contains nat_cmp old.ran q
-          = sets q ∙ ap (λ b. cond b true (contains nat_cmp old.ran q)) (apart run.task q not) in (
+          = sets q ∙ ap (λ b. cond b true (contains nat_cmp old.ran q)) (is_at-other run.task q not) in (
             λ h. omega (arith, time_pushed_other e.from e.to ran run q not, (known.ran q).0 (sym same ∙ h)),
             λ h. same ∙ (known.ran q).1 (omega (arith, h, time_pushed_other e.from e.to ran run q not)),
           )

@@ -9,7 +9,7 @@ use Rattle.bq_schedule.specs.declared.slice.Slice.{Slice}
 use Rattle.bq_report.specs.Longest.{time_between, task_time_between}
 
 -- what a run counts for a task
-abbrev share : ℕ → ℕ → ℕ → Slice → ℕ
+abbrev pub share : ℕ → ℕ → ℕ → Slice → ℕ
 share from to task run = if run.task == task then time_between from to run else 0
 
 -- what a run counts for its own task, and for another

@@ -1,6 +1,6 @@
 -- The columns of a map: how long runs, in the order in which they begin, last between two moments.
 use Rattle.std.proofs.Common.{◌≡◌, ◌∙◌, ℕ, suc, ◌+◌, ◌<◌, ◌≤◌, Bool, true, false, List, [], ◌∷◌, ◌++◌, length, get_or, take, drop, refl, sym, ap, add-one, arith, subst, inl, inr, ◌*◌}
-use Rattle.std.specs.Prelude.{◌==◌, if◌then◌else◌, nat_le, nat_lt, sum_by}
+use Rattle.std.specs.Prelude.{if◌then◌else◌, nat_le, nat_lt, sum_by}
 use Rattle.std.specs.List.{prefix_len}
 use Rattle.std.specs.List.Sorted.{IsNonDecreasingBy, IsPermutation}
 use Rattle.std.proofs.Math.Nat.{suc-mul}
@@ -15,14 +15,11 @@ use Rattle.bq_report.specs.declared.map_row.Column.TheVariants.{Task, Hidden, Id
 use Rattle.bq_report.specs.Longest.{IsLongest, LastAsLong, task_time_between, time_between}
 use Rattle.bq_report.specs.declared.grid.Grid.{Grid}
 use Rattle.bq_report.specs.Maps.{AreColumns, IsColumn, RunsNone, idle_between, moment_at}
+use Rattle.bq_report.proofs.LongestLemmas.{share}
 
 -- runs in the order in which they begin
 abbrev pub InOrder : List Slice → Type 0
 InOrder runs = IsNonDecreasingBy (λ (run : Slice). run.from) runs
-
--- what a run counts for a task
-abbrev share : ℕ → ℕ → ℕ → Slice → ℕ
-share from to task run = if run.task == task then time_between from to run else 0
 
 -- what counts nothing adds nothing, on a condition or in a sum:
 if_zero : (b : Bool) (n : ℕ) → n ≡ 0 → (if b then n else 0) ≡ 0

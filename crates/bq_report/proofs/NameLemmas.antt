@@ -8,12 +8,13 @@ use Rattle.std.proofs.lemmas.Bool.Decides.{nat_tests}
 use Rattle.bq_report.specs.Names.{NamedTasks, IsNaming, Learns, name_of}
 use Rattle.bq_report.proofs.NamingLemmas.{one_naming}
 
--- a key is found at an equal number, and at no other:
-here : (a b : ℕ) → a ≡ b → is_at (nat_cmp a) b ≡ true
-here a b is = grind (arith, nat_tests)
+-- a key is found at an equal number
+pub is_at-equal : (a b : ℕ) → a ≡ b → is_at (nat_cmp a) b ≡ true
+is_at-equal a b is = grind (arith, nat_tests)
 
-apart : (a b : ℕ) → a ≢ b → is_at (nat_cmp a) b ≡ false
-apart a b not = grind (arith, nat_tests)
+-- a key is found at no other number
+pub is_at-other : (a b : ℕ) → a ≢ b → is_at (nat_cmp a) b ≡ false
+is_at-other a b not = grind (arith, nat_tests)
 
 -- a result that is no error owes nothing of one
 pub where_err : {B E : Type 0} (r : Result B E) (P : Type 0) → P → OnErr r P
@@ -56,10 +57,10 @@ module _ {A : Type 0} where
   learns comment name task old new s sets is n = record {
     named = λ t a m.
         let same = one_naming comment task t name a n m in
-        now t ∙ ap (λ b. cond b (Some (string_bytes s)) (name_of (names_in old) t)) (here task t same.0) ∙ ap Some (is ∙ same.1);
+        now t ∙ ap (λ b. cond b (Some (string_bytes s)) (name_of (names_in old) t)) (is_at-equal task t same.0) ∙ ap Some (is ∙ same.1);
     others = λ t none.
         let other : task ≢ t = λ same. none name (subst (λ u. IsNaming comment u name) same n) in
-        now t ∙ ap (λ b. cond b (Some (string_bytes s)) (name_of (names_in old) t)) (apart task t other);
+        now t ∙ ap (λ b. cond b (Some (string_bytes s)) (name_of (names_in old) t)) (is_at-other task t other);
   }
     where
       now : (q : ℕ) → name_of (names_in new) q ≡ cond (is_at (nat_cmp task) q) (Some (string_bytes s)) (name_of (names_in old) q)

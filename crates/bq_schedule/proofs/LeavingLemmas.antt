@@ -37,13 +37,13 @@ weight_of-le : (nice : ℤ) → weight_of nice ≤ 88761
 weight_of-le (pos n) = omega (arith, greatest, get_or-le-most weights (20 + n))
 weight_of-le (negsuc n) = omega (arith, greatest, get_or-le-most weights (19 - n))
 
-weight_at_if : (b : Bool) (n : ℕ) → n ≤ 88761 → cond b n 0 ≤ 88761
-weight_at_if true n h = h
-weight_at_if false n h = omega arith
+weight_if-le : (b : Bool) (n : ℕ) → n ≤ 88761 → cond b n 0 ≤ 88761
+weight_if-le true n h = h
+weight_if-le false n h = omega arith
 
 -- no nice value has a weight above 88761
 pub weight_at-le : (nice : ℤ) → weight_or_zero nice ≤ 88761
-weight_at-le nice = weight_at_if _ (weight_of nice) (weight_of-le nice)
+weight_at-le nice = weight_if-le _ (weight_of nice) (weight_of-le nice)
 
 -- a task that is somewhere has an id of the table
 in_table_by : (s : Figures) (id processor : ℕ) (b : Bool) → (task_in_figures s id).place ≡ Some processor
@@ -75,11 +75,6 @@ pub weights-set : (s : Figures) (id processor : ℕ) (t : TaskFigures)
     → id < length s.tasks
     → weights_at (figures_with_task s id t) processor + weight_there processor (task_in_figures s id) ≡ weights_at s processor + weight_there processor t
 weights-set s id processor t inside = sum_by-set (weight_there processor) s.tasks id t unknown inside
-
--- a weight that counts or not counts for at most 88761
-there-le : (b : Bool) (n : ℕ) → n ≤ 88761 → cond b n 0 ≤ 88761
-there-le true n h = h
-there-le false n h = omega arith
 
 -- a task has its weight where it is
 pub weight-here : (processor : ℕ) (t : TaskFigures) → t.place ≡ Some processor → weight_there processor t ≡ t.weight
@@ -240,5 +235,5 @@ weights-few s processor h =
       h.ids,
       sum_by-le (weight_there processor) 88761 s.tasks
           (All-from_get_or (λ (t : TaskFigures). weight_there processor t ≤ 88761) s.tasks unknown
-          (λ j inside. there-le (is_this processor (task_in_figures s j).place) (task_in_figures s j).weight (h.table j))),
+          (λ j inside. weight_if-le (is_this processor (task_in_figures s j).place) (task_in_figures s j).weight (h.table j))),
     )

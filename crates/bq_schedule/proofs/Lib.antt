@@ -1,3 +1,4 @@
+pub mod CountLemmas
 pub mod FrameLemmas
 pub mod ClockLemmas
 pub mod SliceTimeLemmas

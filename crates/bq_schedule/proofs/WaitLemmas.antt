@@ -30,6 +30,7 @@ use Rattle.bq_schedule.specs.Slices.{sight, sight_of, clock, is_this}
 use Rattle.bq_schedule.specs.Steps.{nothing, figures_asked, waited_there, figures_taken, pulled_report, moves_as, placed, figures_pulled, performed, report_of_answer, time_at, is_there, figures_after, change, figures}
 use Rattle.bq_schedule.specs.Waits.{gives_way, then_if, wait_begins, waits_since, wait_of_pull, wait_of_start, reported_wait}
 use Rattle.bq_schedule.specs.Laws.{IsSightWithin, IsOfProcessors, ReportsWaits, AddsUpWaits}
+use Rattle.bq_schedule.proofs.CountLemmas.{saturating_sum-both}
 use Rattle.bq_schedule.proofs.FrameLemmas.{task_kept, who_is}
 use Rattle.bq_schedule.proofs.ClockLemmas.{figures-clocks, within-figures, not_below}
 use Rattle.bq_schedule.proofs.SumLemmas.{tasks-figures}
@@ -372,10 +373,6 @@ or-is true true at since = refl
 or-is true false at since = refl
 or-is false true at since = refl
 or-is false false at since = refl
-
--- two counts that are added in turn, up to the greatest number, are their sum added at once
-saturating_sum-both : (n a b : ℕ) → saturating_sum (saturating_sum n a) b ≡ saturating_sum n (a + b)
-saturating_sum-both n a b = omega arith
 
 -- a pull tells the waits that it makes: of the task it takes, and of those that give way and begin
 pulled-reports : (processor from now : ℕ) (d : Decision) (task run : Option ℕ) (s : Figures) (j : ℕ) (c : Change)
