@@ -65,15 +65,15 @@ held_with_run (Some start) None held = held
 held_with_run (Some start) (Some part) held = with_more part.processor part.task (row_with_run (drawn_run start part)) held
 
 -- what is held, with a wait added to the row of a processor
-abbrev pub with_stretch : ℕ → TaskInterval → Held → Held
-with_stretch processor wait held = with_more processor wait.task (row_with_wait wait) held
+abbrev pub with_interval : ℕ → TaskInterval → Held → Held
+with_interval processor wait held = with_more processor wait.task (row_with_wait wait) held
 
 -- what is held, with the part of a wait added to its processor's row, if a part of it is shown
 abbrev pub with_wait : Option Slice → Held → Held
 with_wait None held = held
-with_wait (Some part) held = with_stretch part.processor (record { from = part.from; to = part.to; task = part.task }) held
+with_wait (Some part) held = with_interval part.processor (record { from = part.from; to = part.to; task = part.task }) held
 
--- a wake as a stretch of no length
+-- a wake as an interval of no length
 abbrev pub waking : Wake → TaskInterval
 waking k = record { from = k.at; to = k.at; task = k.task }
 

@@ -52,7 +52,7 @@ arrow_width = 9
 abbrev pub moment_place : Extent → ℕ → ℕ
 moment_place e time = left_edge * 100 + (min time e.to - e.from) * (time_width * 100) / max (e.to - e.from) 1
 
--- how wide the stretch between two moments is drawn, in hundredths: at least as wide as can be seen
+-- how wide the time between two moments is drawn, in hundredths: at least as wide as can be seen
 abbrev pub drawn_width : Extent → ℕ → ℕ → ℕ
 drawn_width e from to = max (moment_place e to - moment_place e from) least_width
 

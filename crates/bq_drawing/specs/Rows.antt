@@ -31,14 +31,14 @@ Rows = List DrawingRow
 abbrev pub drawing_row_of : Rows → ℕ → DrawingRow
 drawing_row_of rows processor = slice_index_or rows processor empty_drawing_row
 
--- the order of stretches: by when they begin, then by when they end, then by their tasks
-abbrev pub stretch_cmp : TaskInterval → TaskInterval → Ordering
-stretch_cmp a b = ordering_then (nat_cmp a.from b.from) (ordering_then (nat_cmp a.to b.to) (nat_cmp a.task b.task))
+-- the order of intervals: by when they begin, then by when they end, then by their tasks
+abbrev pub interval_cmp : TaskInterval → TaskInterval → Ordering
+interval_cmp a b = ordering_then (nat_cmp a.from b.from) (ordering_then (nat_cmp a.to b.to) (nat_cmp a.task b.task))
 
--- `sorted` has the stretches of `given`, in the order in which they begin
+-- `sorted` has the intervals of `given`, in the order in which they begin
 pub record ArePutInOrder (given sorted : List TaskInterval) : Type 0 where
   pub same : IsPermutation given sorted
-  pub order : IsSorted stretch_cmp sorted
+  pub order : IsSorted interval_cmp sorted
 
 -- a processor has a row: it exists, and is shown
 pub record HasRow (w : Window) (rows : Rows) (number : ℕ) : Type 0 where

@@ -95,16 +95,16 @@ drawn_run_text s top run = rectangle_text s top run ++ (run_title s run ++ codes
 
 -- a shape in its lane, or nothing if it found none
 abbrev pub shape_in : (ℕ → TaskInterval → List ℕ) → Option ℕ → TaskInterval → List ℕ
-shape_in draw None stretch = []
-shape_in draw (Some lane) stretch = draw lane stretch
+shape_in draw None interval = []
+shape_in draw (Some lane) interval = draw lane interval
 
 -- shapes, one after another, each in the lane that it takes; `room` says how much room a shape needs, and a lane is given by the moment
 -- from which it is free
 unfoldable pub in_lanes : (TaskInterval → TaskInterval) → (ℕ → TaskInterval → List ℕ) → List ℕ → List TaskInterval → List ℕ
 in_lanes room draw lanes [] = []
-in_lanes room draw lanes (stretch ∷ later) =
-    shape_in draw (lane_of (room stretch) lanes) stretch
-    ++ in_lanes room draw (lanes_taken (lane_of (room stretch) lanes) (room stretch).to lanes) later
+in_lanes room draw lanes (interval ∷ later) =
+    shape_in draw (lane_of (room interval) lanes) interval
+    ++ in_lanes room draw (lanes_taken (lane_of (room interval) lanes) (room interval).to lanes) later
 
 -- the height of a wait in this lane, below the band whose upper edge is at `top`
 abbrev pub wait_height : ℕ → ℕ → ℕ

@@ -3,7 +3,7 @@ ghost use Rattle.std.specs.Prelude.{◌≡◌, ◌++◌, [], ◌∷◌, IfOk, On
 ghost use Rattle.std.specs.BTreeMap.{get};
 ghost use Rattle.std.specs.Ordering.{nat_cmp};
 ghost use Rattle.bq_disc.specs.Counts.{saturating_sum};
-ghost use Rattle.bq_drawing.specs.Holdings.{nothing_of, with_link, held_with_run, with_stretch, with_wake};
+ghost use Rattle.bq_drawing.specs.Holdings.{nothing_of, with_link, held_with_run, with_interval, with_wake};
 ghost use Rattle.bq_drawing.specs.Keys.{has_line, legend_top, tasks_shown};
 ghost use Rattle.bq_drawing.specs.Legends.{legend_height, legend_text};
 ghost use Rattle.bq_drawing.specs.Links.{link_line};
@@ -101,7 +101,7 @@ impl Drawing {
 
     /// Adds a wait at a processor.
     pub fn push_wait(&mut self, processor: u8, wait: TaskInterval) -> Result<(), AllocError>
-        ensures { OnOk result (self.new ≡ with_stretch processor wait self.old) }
+        ensures { OnOk result (self.new ≡ with_interval processor wait self.old) }
     {
         self.tasks.insert(wait.task)?;
         if let Some(row) = self.rows.get_mut(usize::from(processor)) {

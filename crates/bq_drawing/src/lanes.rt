@@ -1,14 +1,14 @@
-//! Stretches of time, side by side in lanes.
+//! Intervals of time, side by side in lanes.
 ghost use Rattle.std.specs.Prelude.{◌≡◌, ◌<◌, IfOk, IfSome, [], length, nat_le};
 ghost use Rattle.bq_drawing.specs.Lanes.{first_free, lane_of, lanes_taken};
 
 use std::alloc::{AllocError, Global};
 use std::marker::Model;
 
-/// How many stretches are drawn one above another. If there are more at a time, the rest are left out.
+/// How many intervals are drawn one above another. If there are more at a time, the rest are left out.
 pub const LANES: usize = 16;
 
-/// A stretch of time of a task at a processor.
+/// An interval of time of a task at a processor.
 #[derive(Clone, Copy, PartialEq, Eq, PartialOrd, Ord)]
 pub struct TaskInterval {
     pub from: u64,
@@ -47,22 +47,22 @@ impl Lanes {
         self.free.len()
     }
 
-    /// The first lane that is free when a stretch begins. The stretch takes it. If no lane is free it takes a new one, and `None` if all
-    /// are taken. Stretches must come in the order in which they begin.
-    pub fn take(&mut self, stretch: &TaskInterval) -> Result<Option<usize>, AllocError>
-        ensures lane { IfOk result (λ lane. lane ≡ lane_of stretch.now self.old) }
-        ensures taken { IfOk result (λ lane. self.new ≡ lanes_taken lane stretch.now.to self.old) }
+    /// Takes the first lane that is free when an interval begins. If no lane is free it takes a new one, and `None` if all are taken.
+    /// Intervals must come in the order in which they begin.
+    pub fn take(&mut self, interval: &TaskInterval) -> Result<Option<usize>, AllocError>
+        ensures lane { IfOk result (λ lane. lane ≡ lane_of interval.now self.old) }
+        ensures taken { IfOk result (λ lane. self.new ≡ lanes_taken lane interval.now.to self.old) }
     {
-        if let Some(place) = self.first_free(stretch.from) {
+        if let Some(place) = self.first_free(interval.from) {
             if let Some(free) = self.free.get_mut(place) {
-                *free = stretch.to;
+                *free = interval.to;
                 return Ok(Some(place));
             }
         }
         if self.free.len() >= LANES {
             return Ok(None);
         }
-        self.free.push(stretch.to)?;
+        self.free.push(interval.to)?;
         Ok(Some(self.free.len() - 1))
     }
 

@@ -87,7 +87,7 @@ pub(crate) fn draw_wakes(
     })
 }
 
-/// 1 if a stretch found no lane, otherwise 0.
+/// 1 if an interval found no lane, otherwise 0.
 fn without_lane(lane: Option<usize>) -> usize
     ensures { result ≡ without_lane lane }
 {

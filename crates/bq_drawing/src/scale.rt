@@ -22,16 +22,16 @@ impl fmt::Display for Hundredths {
     }
 }
 
-/// How wide the stretch of time is drawn.
+/// How wide an extent is drawn.
 pub const WIDTH: u64 = 1080;
 
 /// How wide the arrow of a wake is.
 const ARROW: u64 = 9;
 
-/// How far the stretch of time is from the left edge.
+/// How far an extent is from the left edge.
 pub const LEFT: u64 = 72;
 
-/// How far the stretch of time is from the right edge.
+/// How far an extent is from the right edge.
 const RIGHT: u64 = 24;
 
 /// How wide the picture is.
@@ -40,7 +40,7 @@ pub const PAGE: u64 = LEFT + WIDTH + RIGHT;
 /// The least width that can be seen, in hundredths.
 const LEAST: u64 = 40;
 
-/// A stretch of time, drawn over `WIDTH`.
+/// An extent, drawn over `WIDTH`.
 #[derive(Clone, Copy)]
 pub struct Scale {
     pub extent: Extent,
@@ -57,7 +57,7 @@ impl Scale {
         Hundredths(LEFT * 100 + part as u64)
     }
 
-    /// How wide the stretch between two moments is drawn: at least as wide as can be seen.
+    /// How wide the time between two moments is drawn: at least as wide as can be seen.
     pub fn width(&self, from: u64, to: u64) -> Hundredths
         ensures { result.0 ≡ drawn_width self.now.extent from to }
     {
