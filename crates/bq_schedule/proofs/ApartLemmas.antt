@@ -6,7 +6,7 @@ use Rattle.std.proofs.lemmas.List.Elements.{filter-append, All-nil, All-push, Al
 use Rattle.bq_disc.specs.OneProcessor.{reading}
 use Rattle.bq_schedule.specs.declared.slice.Slice.{Slice}
 use Rattle.bq_schedule.specs.Moments.{History}
-use Rattle.bq_schedule.specs.Slices.{Sight, sight_of, clock_after, clock, runner, stretch, slice_shown, slices, is_slice_at, StandApart, slices_at}
+use Rattle.bq_schedule.specs.Slices.{Sight, sight_of, clock_after, clock, runner, slice_of, slice_shown, slices, is_slice_at, StandApart, slices_at}
 
 -- slices that end by some time
 abbrev pub EndBy : ℕ → List Slice → Type 0
@@ -65,7 +65,7 @@ next_at : (x : Sight) (past : History) (processor : ℕ) (who : Option ℕ) (b e
     → ltb (clock x.processor past) (reading (clock x.processor past) x.now) ≡ b
     → ((e ≡ true) × (x.processor ≡ processor)) ⊎ ((e ≡ false) × (x.processor ≢ processor)) → eqb x.processor processor ≡ e
     → IsNext (clock processor past) (cond e (reading (clock processor past) x.now) (clock processor past))
-    (at_only processor (stretch x.processor who (clock x.processor past) (reading (clock x.processor past) x.now)))
+    (at_only processor (slice_of x.processor who (clock x.processor past) (reading (clock x.processor past) x.now)))
 next_at x past processor None b e lt t is = rises e (clock processor past) x.now
 next_at x past processor (Some id) true true lt (inl same) is =
     let k : clock x.processor past ≡ clock processor past = ap (λ j. clock j past) same.1 in

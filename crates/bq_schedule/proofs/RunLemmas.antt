@@ -15,7 +15,7 @@ use Rattle.bq_schedule.specs.declared.figures.ProcessorFigures.{ProcessorFigures
 use Rattle.bq_schedule.specs.Moments.{History}
 use Rattle.bq_schedule.specs.Figures.{Figures, unread, processor_in_figures}
 use Rattle.bq_schedule.specs.Passing.{continues_run, slice_at, joined_run, ended_run, processor_read}
-use Rattle.bq_schedule.specs.Slices.{Sight, sight, sight_of, runner, stretch, slice_shown, slices, slices_at, is_slice_at, slice_joined, runs}
+use Rattle.bq_schedule.specs.Slices.{Sight, sight, sight_of, runner, slice_of, slice_shown, slices, slices_at, is_slice_at, slice_joined, runs}
 use Rattle.bq_schedule.specs.Steps.{report_of_answer, change, nothing, is_there, figures_after, figures}
 use Rattle.bq_schedule.specs.Laws.{IsSightWithin, IsOfProcessors, reported_if, reported_runs, ReportsRuns}
 use Rattle.bq_schedule.proofs.FrameLemmas.{Works}
@@ -164,7 +164,7 @@ only-cond false processor j id from to false e = refl
 
 only-there : (processor j from to : ℕ) (who : Option ℕ) (b : Bool)
     → eqb processor j ≡ b
-    → at_only j (stretch processor who from to) ≡ cond b (stretch processor who from to) None
+    → at_only j (slice_of processor who from to) ≡ cond b (slice_of processor who from to) None
 only-there processor j from to None true e = refl
 only-there processor j from to None false e = refl
 only-there processor j from to (Some id) true e = only-cond (ltb from to) processor j id from to true e

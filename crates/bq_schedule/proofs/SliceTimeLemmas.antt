@@ -14,7 +14,7 @@ use Rattle.bq_schedule.specs.Moments.{Moment, History}
 use Rattle.bq_schedule.specs.Figures.{Figures, processor_in_figures}
 use Rattle.bq_schedule.specs.Passing.{slice_between, slice_at}
 use Rattle.bq_schedule.specs.Running.{running_task}
-use Rattle.bq_schedule.specs.Slices.{Sight, sight, sight_of, clock, stretch, slice_shown, slices}
+use Rattle.bq_schedule.specs.Slices.{Sight, sight, sight_of, clock, slice_of, slice_shown, slices}
 use Rattle.bq_schedule.specs.Steps.{report_of_answer, change, nothing, is_there, figures}
 use Rattle.bq_schedule.specs.Laws.{IsSightWithin, IsOfProcessors}
 use Rattle.bq_schedule.proofs.ClockLemmas.{figures-clocks, within-figures, not_below}
@@ -53,10 +53,10 @@ seen-change s e (Ok r) h = seen-if (is_there s e) s e r refl h
 seen-change s e (Err r) h = refl
 
 -- a slice by who runs
-stretch_is : (processor from to : ℕ) (running : Option Start)
-    → slice_between processor from to running ≡ stretch processor (option_map (λ (x : Start). x.task) running) from to
-stretch_is processor from to None = refl
-stretch_is processor from to (Some start) = refl
+slice_of-is : (processor from to : ℕ) (running : Option Start)
+    → slice_between processor from to running ≡ slice_of processor (option_map (λ (x : Start). x.task) running) from to
+slice_of-is processor from to None = refl
+slice_of-is processor from to (Some start) = refl
 
 -- the slice that figures show of a sight is the one that their history shows
 pub shown-seen : (count : ℕ) (past : History) (o : Option Sight)
@@ -65,9 +65,9 @@ shown-seen count past None h w = refl
 shown-seen count past (Some x) h w =
     let c = figures-clocks count past x.processor h w in
     let p = processor_in_figures (figures count past) x.processor in
-    stretch_is x.processor p.last (reading p.last x.now) p.running
-    ∙ ap (λ n. stretch x.processor (running_task p) n (reading n x.now)) c.0
-    ∙ ap (λ y. stretch x.processor y (clock x.processor past) (reading (clock x.processor past) x.now)) c.1
+    slice_of-is x.processor p.last (reading p.last x.now) p.running
+    ∙ ap (λ n. slice_of x.processor (running_task p) n (reading n x.now)) c.0
+    ∙ ap (λ y. slice_of x.processor y (clock x.processor past) (reading (clock x.processor past) x.now)) c.1
 
 -- the slice that is reported of a moment is the one that it ends
 pub slice-reported : (count : ℕ) (past : History) (m : Moment)

@@ -57,14 +57,14 @@ runner processor [] = None
 runner processor (m ∷ past) = runner_after processor (runner processor past) (sight_of m.event m.answer)
 
 -- the slice of the running task from one reading to another, unless it is empty
-abbrev pub stretch : ℕ → Option ℕ → ℕ → ℕ → Option Slice
-stretch processor None from to = None
-stretch processor (Some id) from to = if nat_lt from to then Some (record { processor = processor; task = id; from = from; to = to }) else None
+abbrev pub slice_of : ℕ → Option ℕ → ℕ → ℕ → Option Slice
+slice_of processor None from to = None
+slice_of processor (Some id) from to = if nat_lt from to then Some (record { processor = processor; task = id; from = from; to = to }) else None
 
 -- the slice that a moment ends, after the history before it
 abbrev pub slice_shown : History → Option Sight → Option Slice
 slice_shown past None = None
-slice_shown past (Some s) = stretch s.processor (runner s.processor past) (clock s.processor past) (reading (clock s.processor past) s.now)
+slice_shown past (Some s) = slice_of s.processor (runner s.processor past) (clock s.processor past) (reading (clock s.processor past) s.now)
 
 -- all slices of a history, in the order in which they ended
 abbrev pub slices : History → List Slice
