@@ -10,8 +10,8 @@ use crate::fault::AsmFault;
 use bq_insn::Insn;
 use std::alloc::Global;
 
-/// The instructions that a text stands for, or its first fault. The instructions are well formed: registers and
-/// widths are in range, and they take 1 to 4096 slots.
+/// Returns the instructions that a text stands for, or the first fault of the text. The instructions are well formed:
+/// registers and widths are in range, and they take 1 to 4096 slots.
 ///
 /// Each instruction has a line of its own: a first word, then operands, with spaces, tabs or commas between them. A `;`
 /// begins a comment. A line of one word that ends with `:` sets a label. A jump on any line, earlier or later, may name

@@ -32,6 +32,7 @@ impl fmt::Display for Written {
 
     ghost output = { λ written. Some (text_of_instruction written.0) };
 
+    /// Writes the line of the instruction.
     fn fmt<W: fmt::Write>(&self, f: &mut fmt::Formatter<W>) -> fmt::Result {
         let mnemonic = mnemonic_of(self.0);
         let operands = operands_of(self.0);
@@ -39,7 +40,7 @@ impl fmt::Display for Written {
     }
 }
 
-/// The mnemonic of an instruction.
+/// Returns the mnemonic of an instruction.
 pub fn mnemonic_of(insn: Insn) -> Mnemonic
     ensures { result ≡ mnemonic_of insn }
 {
@@ -70,7 +71,7 @@ pub fn mnemonic_of(insn: Insn) -> Mnemonic
     }
 }
 
-/// The operands of an instruction, as its line lists them.
+/// Returns the operands of an instruction, as its line lists them.
 pub fn operands_of(insn: Insn) -> Operands
     ensures { list_of result ≡ operands_of insn }
 {
@@ -119,6 +120,7 @@ pub fn operands_of(insn: Insn) -> Operands
     }
 }
 
+/// Returns the operand that a source says: a number or a register.
 fn source_operand(source: Source) -> Operand
     ensures { result ≡ source_operand source }
 {

@@ -28,7 +28,7 @@ pub struct Draft<'a> {
 impl<'a> Draft<'a> {
     ghost use Rattle.bq_asm.specs.Draft.{IsDraftOf, TakesLine, RefusesLine, FinishesDraft, Fails};
 
-    /// The draft of no lines.
+    /// Returns the draft of no lines.
     pub fn new(alloc: Global) -> Self
         ensures { IsDraftOf [] result }
     {
@@ -40,7 +40,7 @@ impl<'a> Draft<'a> {
         }
     }
 
-    /// Takes the line of this number, or answers the least cause of its fault.
+    /// Takes the line of this number into the draft, or returns its fault with the least cause.
     pub fn take_line(&mut self, number: usize, line: &'a [u8]) -> Result<(), AsmFault>
         ensures ok { OnOk result (TakesLine self.old self.new number (parsed_line line.entry.now)) }
         ensures fault { IfErr result (RefusesLine self.old number (parsed_line line.entry.now)) }
@@ -51,7 +51,7 @@ impl<'a> Draft<'a> {
         self.take_words(number, words.as_slice())
     }
 
-    /// The instructions, with the distance of each jump to a label set. The error names a fault of the text as
+    /// Returns the instructions, with the distance of each jump to a label set. The error names a fault of the text as
     /// a whole: no instruction, or a jump to a label that is set nowhere.
     pub fn finish(self) -> Result<Vec<Insn>, AsmFault>
         requires { (lines : List Line) × IsDraftOf lines self }
@@ -73,6 +73,7 @@ impl<'a> Draft<'a> {
         }
     }
 
+    /// Takes the words of a line into the draft, or returns the fault of the line.
     fn take_words(&mut self, number: usize, words: &[&'a [u8]]) -> Result<(), AsmFault>
         ensures ok { OnOk result (TakesLine self.old self.new number (line_of_words (word_texts words.entry.now))) }
         ensures fault { IfErr result (RefusesLine self.old number (line_of_words (word_texts words.entry.now))) }
@@ -86,6 +87,7 @@ impl<'a> Draft<'a> {
         }
     }
 
+    /// Sets a label at the next slot; refuses a word that is no name of a label (A1), and a label that is set already (A3).
     fn set_label(&mut self, number: usize, name: &'a [u8]) -> Result<(), AsmFault>
         ensures ok { OnOk result (TakesLine self.old self.new number (Label name.entry.now)) }
         ensures fault { IfErr result (RefusesLine self.old number (Label name.entry.now)) }
@@ -99,6 +101,7 @@ impl<'a> Draft<'a> {
         Ok(())
     }
 
+    /// Appends the instruction that the words of a line say; refuses words that say none (A1, A2), and an instruction past slot 4096 (A5).
     fn take_instruction(
         &mut self,
         number: usize,
@@ -130,7 +133,7 @@ impl<'a> Draft<'a> {
     }
 }
 
-/// The label that a line of these words sets, if it sets one.
+/// Returns the label that a line of these words sets, if it sets one.
 pub fn label_set<'a>(first: &'a [u8], operands: &[&'a [u8]]) -> Option<&'a [u8]>
     ensures { option_map (λ name. name.now) result ≡ label_set first.entry.now (word_texts operands.entry.now) }
 {

@@ -23,7 +23,7 @@ pub enum AssemblyCause {
 }
 
 impl AssemblyCause {
-    /// The number of the cause, as texts name it after the letter A.
+    /// Returns the number of the cause, as texts name it after the letter A.
     pub fn number(self) -> u8
         ensures { result ≡ assembly_cause_number self }
     {
@@ -55,6 +55,7 @@ impl fmt::Display for AsmFault {
 
     ghost output = { λ fault. Some (assembly_fault_text fault) };
 
+    /// Writes the text of the fault.
     fn fmt<W: fmt::Write>(&self, f: &mut fmt::Formatter<W>) -> fmt::Result {
         match *self {
             AsmFault::At { line, cause } => {
@@ -68,7 +69,7 @@ impl fmt::Display for AsmFault {
 
 impl Error for AsmFault {}
 
-/// The fault with this line and cause.
+/// Returns the fault with this line and cause.
 pub fn refusal(line: usize, cause: AssemblyCause) -> AsmFault
     ensures { result ≡ AsmFault.At line cause }
 {
@@ -81,6 +82,7 @@ impl From<AllocError> for AsmFault {
 
     ghost from_gives = { λ _ e. e ≡ OutOfMemory };
 
+    /// Returns the fault that memory ran out.
     fn from(_error: AllocError) -> AsmFault {
         AsmFault::OutOfMemory
     }
@@ -92,6 +94,7 @@ impl<T: Drop> From<AllocFailed<T>> for AsmFault {
 
     ghost from_gives = { λ _ e. e ≡ OutOfMemory };
 
+    /// Returns the fault that memory ran out.
     fn from(_error: AllocFailed<T>) -> AsmFault {
         AsmFault::OutOfMemory
     }

@@ -19,8 +19,8 @@ pub enum Kinds {
     Three(OperandKind, OperandKind, OperandKind),
 }
 
-/// The instruction that a first word and its operands say, or the least cause why they say none. A label in the place
-/// of a target stands for the distance 0.
+/// Returns the instruction that a first word and its operands say, or the least cause why they say none. A label in the
+/// place of a target stands for the distance 0.
 pub fn instruction_of(first: &[u8], words: &[&[u8]]) -> Result<Insn, AssemblyCause>
     ensures { result ≡ instruction_of first.now (word_texts words.now) (Some (pos 0)) }
 {
@@ -37,7 +37,7 @@ pub fn instruction_of(first: &[u8], words: &[&[u8]]) -> Result<Insn, AssemblyCau
     }
 }
 
-/// The kinds of operands that follow a first word.
+/// Returns the kinds of the operands that follow a first word.
 pub fn kinds_of(mnemonic: Mnemonic) -> Kinds
     ensures { result ≡ kinds_of mnemonic }
 {
@@ -65,7 +65,7 @@ pub fn kinds_of(mnemonic: Mnemonic) -> Kinds
     }
 }
 
-/// The operands that the words write, or the least cause among them.
+/// Returns the operands that the words write, or the least cause among them.
 fn operands_of(kinds: Kinds, words: &[&[u8]]) -> Result<Operands, AssemblyCause>
     ensures { listed_operands result ≡ each_operand (kind_list kinds) (word_texts words.now) (Some (pos 0)) }
 {
@@ -75,6 +75,7 @@ fn operands_of(kinds: Kinds, words: &[&[u8]]) -> Result<Operands, AssemblyCause>
     each_of(kinds, words)
 }
 
+/// Returns the operands that the words write, one word for each kind, or the least cause among them.
 fn each_of(kinds: Kinds, words: &[&[u8]]) -> Result<Operands, AssemblyCause>
     requires { length words.now ≡ length (kind_list kinds) }
     ensures { listed_operands result ≡ each_operand (kind_list kinds) (word_texts words.now) (Some (pos 0)) }
@@ -92,6 +93,7 @@ fn each_of(kinds: Kinds, words: &[&[u8]]) -> Result<Operands, AssemblyCause>
     }
 }
 
+/// Returns the number of operands, 0 to 3.
 fn count_of(kinds: Kinds) -> usize
     ensures { result ≡ length (kind_list kinds) }
 {
@@ -103,12 +105,14 @@ fn count_of(kinds: Kinds) -> usize
     }
 }
 
+/// Returns the list of one operand, or the cause why there is no operand.
 fn one_of(only: Result<Operand, AssemblyCause>) -> Result<Operands, AssemblyCause>
     ensures { listed_operands result ≡ with_next only (Ok []) }
 {
     Ok(Operands::One(only?))
 }
 
+/// Returns the list of two operands, or the cause why they are missing.
 fn two_of(pair: Result<(Operand, Operand), AssemblyCause>) -> Result<Operands, AssemblyCause>
     ensures { listed_operands result ≡ both_operands pair }
 {
@@ -116,7 +120,7 @@ fn two_of(pair: Result<(Operand, Operand), AssemblyCause>) -> Result<Operands, A
     Ok(Operands::Two(a, b))
 }
 
-/// The operands that two words write, or the lesser of their causes.
+/// Returns the operands that two words write, or the lesser of their causes.
 fn pair_of(
     first: OperandKind,
     second: OperandKind,
@@ -132,6 +136,7 @@ fn pair_of(
     }
 }
 
+/// Returns the list of three operands, or the lesser of the causes why some are missing.
 fn three_of(
     first: Result<Operand, AssemblyCause>,
     others: Result<(Operand, Operand), AssemblyCause>,
@@ -145,6 +150,7 @@ fn three_of(
     }
 }
 
+/// Returns the lesser of the causes of two operands: A1 if one of them is A1, else A2.
 fn lesser(a: AssemblyCause, b: AssemblyCause) -> AssemblyCause
     ensures { result ≡ lesser a b }
 {
@@ -155,6 +161,7 @@ fn lesser(a: AssemblyCause, b: AssemblyCause) -> AssemblyCause
     }
 }
 
+/// Returns the instruction of a mnemonic with these operands, if there is one.
 fn insn_from(mnemonic: Mnemonic, operands: Operands) -> Option<Insn>
     ensures { result ≡ insn_from mnemonic (list_of operands) }
 {
@@ -166,6 +173,7 @@ fn insn_from(mnemonic: Mnemonic, operands: Operands) -> Option<Insn>
     }
 }
 
+/// Returns the instruction without operands, if the mnemonic has one.
 fn insn_alone(mnemonic: Mnemonic) -> Option<Insn>
     ensures { result ≡ insn_from mnemonic [] }
 {
@@ -175,6 +183,7 @@ fn insn_alone(mnemonic: Mnemonic) -> Option<Insn>
     }
 }
 
+/// Returns the instruction with this one operand, if the mnemonic has one.
 fn insn_of_one(mnemonic: Mnemonic, operand: Operand) -> Option<Insn>
     ensures { result ≡ insn_from mnemonic (operand ∷ []) }
 {
@@ -188,6 +197,7 @@ fn insn_of_one(mnemonic: Mnemonic, operand: Operand) -> Option<Insn>
     }
 }
 
+/// Returns the instruction with these two operands, if the mnemonic has one.
 fn insn_of_two(mnemonic: Mnemonic, first: Operand, second: Operand) -> Option<Insn>
     ensures { result ≡ insn_from mnemonic (first ∷ second ∷ []) }
 {
@@ -206,7 +216,7 @@ fn insn_of_two(mnemonic: Mnemonic, first: Operand, second: Operand) -> Option<In
     }
 }
 
-/// The instruction whose operands are a register and a number, if the mnemonic has one.
+/// Returns the instruction whose operands are a register and a number, if the mnemonic has one.
 fn insn_of_number(mnemonic: Mnemonic, dst: u8, number: i32) -> Option<Insn>
     ensures { result ≡ insn_from mnemonic (Operand.Register dst ∷ Operand.Number number ∷ []) }
 {
@@ -222,7 +232,7 @@ fn insn_of_number(mnemonic: Mnemonic, dst: u8, number: i32) -> Option<Insn>
     }
 }
 
-/// The instruction whose operands are two registers, if the mnemonic has one.
+/// Returns the instruction whose operands are two registers, if the mnemonic has one.
 fn insn_of_register(mnemonic: Mnemonic, dst: u8, src: u8) -> Option<Insn>
     ensures { result ≡ insn_from mnemonic (Operand.Register dst ∷ Operand.Register src ∷ []) }
 {
@@ -243,7 +253,7 @@ fn insn_of_register(mnemonic: Mnemonic, dst: u8, src: u8) -> Option<Insn>
     }
 }
 
-/// The instruction whose operands are a register and a place in memory, if the mnemonic has one.
+/// Returns the instruction whose operands are a register and a place in memory, if the mnemonic has one.
 fn insn_of_load(mnemonic: Mnemonic, dst: u8, src: u8, off: i16) -> Option<Insn>
     ensures { result ≡ insn_from mnemonic (Operand.Register dst ∷ Operand.Memory src off ∷ []) }
 {
@@ -261,7 +271,7 @@ fn insn_of_load(mnemonic: Mnemonic, dst: u8, src: u8, off: i16) -> Option<Insn>
     })
 }
 
-/// The instruction whose operands are a place in memory and what is stored there, if the mnemonic has one.
+/// Returns the instruction whose operands are a place in memory and what is stored there, if the mnemonic has one.
 fn insn_of_store(mnemonic: Mnemonic, dst: u8, off: i16, stored: Operand) -> Option<Insn>
     ensures { result ≡ insn_from mnemonic (Operand.Memory dst off ∷ stored ∷ []) }
 {
@@ -282,6 +292,7 @@ fn insn_of_store(mnemonic: Mnemonic, dst: u8, off: i16, stored: Operand) -> Opti
     }
 }
 
+/// Returns the instruction with these three operands, if the mnemonic has one: only branches do.
 fn insn_of_three(mnemonic: Mnemonic, a: Operand, b: Operand, c: Operand) -> Option<Insn>
     ensures { result ≡ insn_from mnemonic (a ∷ b ∷ c ∷ []) }
 {

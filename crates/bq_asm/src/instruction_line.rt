@@ -6,7 +6,7 @@ ghost use Rattle.bq_asm.specs.Operands.{word_texts};
 use crate::draft::label_set;
 use crate::line::{without_comment, words};
 
-/// Whether the line says an instruction, right or faulty: it has words and sets no label.
+/// Tells whether the line says an instruction, right or faulty: it has words and sets no label.
 pub fn is_instruction_line(line: &[u8]) -> bool
     ensures { result ≡ is_instruction (parsed_line line.now) }
 {
@@ -17,7 +17,7 @@ pub fn is_instruction_line(line: &[u8]) -> bool
     }
 }
 
-/// Whether these words of a line say an instruction: there is at least one word, and the line sets no label.
+/// Tells whether these words of a line say an instruction: there is at least one word, and the line sets no label.
 fn has_instruction(words: &[&[u8]]) -> bool
     ensures { result ≡ is_instruction (line_of_words (word_texts words.now)) }
 {

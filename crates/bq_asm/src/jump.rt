@@ -22,7 +22,7 @@ pub struct Jump<'a> {
     pub label: &'a [u8],
 }
 
-/// The label that a jump names as its target, if it names one.
+/// Returns the label that a jump names as its target, if it names one.
 pub fn target_of<'a>(insn: Insn, operands: &[&'a [u8]]) -> Option<&'a [u8]>
     ensures { option_map (λ word. word.now) result ≡ target_of insn (word_texts operands.entry.now) }
 {
@@ -33,7 +33,7 @@ pub fn target_of<'a>(insn: Insn, operands: &[&'a [u8]]) -> Option<&'a [u8]>
     if is_label(word) { Some(word) } else { None }
 }
 
-/// If there is a label, appends the jump to it.
+/// Appends the jump to the label, if there is a label; fails only if memory runs out.
 pub fn push_jump<'a>(
     jumps: &mut Vec<Jump<'a>>,
     index: usize,
@@ -56,7 +56,7 @@ pub fn push_jump<'a>(
     Ok(())
 }
 
-/// Sets the distance of each jump, or answers the line of the first jump whose label is set nowhere.
+/// Sets the distance of each jump, or returns the line of the first jump whose label is set nowhere.
 pub fn set_jumps<'a>(
     labels: &IndexMap<&'a [u8], usize>,
     jumps: &[Jump<'a>],
@@ -77,7 +77,7 @@ pub fn set_jumps<'a>(
     Ok(())
 }
 
-/// The slot at which a label is set; `None` if it is set nowhere.
+/// Returns the slot at which a label is set; `None` if it is set nowhere.
 fn slot_of<'a>(labels: &IndexMap<&'a [u8], usize>, label: &'a [u8]) -> Option<usize>
     requires { All (λ e. e.1 ≤ 4096) labels.now.entries }
     ensures found { result ≡ lookup (bytes_eq label.entry.now) (places_of labels.now) }
@@ -86,7 +86,7 @@ fn slot_of<'a>(labels: &IndexMap<&'a [u8], usize>, label: &'a [u8]) -> Option<us
     labels.get(&label).copied()
 }
 
-/// The distance from one slot to another.
+/// Returns the distance from one slot to another, in slots.
 fn distance_between(from: usize, to: usize) -> i16
     requires from { from ≤ 4096 }
     requires to { to ≤ 4096 }
@@ -95,6 +95,7 @@ fn distance_between(from: usize, to: usize) -> i16
     (to as i16) - (from as i16)
 }
 
+/// Tells whether the instruction is a jump or a branch.
 fn is_jump(insn: Insn) -> bool
     ensures { result ≡ is_jump insn }
 {
@@ -104,7 +105,7 @@ fn is_jump(insn: Insn) -> bool
     }
 }
 
-/// The jump with this distance, from the slot after the jump to its target.
+/// Returns the jump with this distance, from the slot after the jump to its target; any other instruction stays.
 fn aimed(insn: Insn, distance: i16) -> Insn
     ensures { result ≡ jump_aimed insn distance }
 {

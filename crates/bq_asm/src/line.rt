@@ -16,12 +16,13 @@ struct Separators;
 impl Blank for Separators {
     ghost is_blank = { is_blank };
 
+    /// Tells whether the byte is a space, a tab or a comma.
     fn is_blank(byte: u8) -> bool {
         byte == b' ' || byte == b'\t' || byte == b','
     }
 }
 
-/// The line up to its comment, which a `;` begins.
+/// Returns the line up to its comment, which a `;` begins.
 pub fn without_comment(line: &[u8]) -> &[u8]
     ensures { result.now ≡ before_first is_comment line.now }
 {
@@ -31,13 +32,14 @@ pub fn without_comment(line: &[u8]) -> &[u8]
     }
 }
 
+/// Returns the place of the first `;`, if there is one.
 fn comment_at(line: &[u8]) -> Option<usize>
     ensures { result ≡ position is_comment line.now }
 {
     line.iter().position(|b| is_comment(*b))
 }
 
-/// The words of a text without comments, or `None` if there are more than four.
+/// Returns the words of a text without comments, or `None` if there are more than four.
 pub fn words(text: &[u8]) -> Option<ArrayVec<&[u8], WORDS>>
     ensures { MatchOption result (4 < length (words_between_blanks text.now)) (λ found. word_texts found.items ≡ words_between_blanks text.now) }
 {
@@ -53,31 +55,35 @@ pub fn words(text: &[u8]) -> Option<ArrayVec<&[u8], WORDS>>
     Some(found)
 }
 
+/// Tells whether the byte begins a comment.
 fn is_comment(byte: u8) -> bool
     ensures { result ≡ is_comment byte }
 {
     byte == b';'
 }
 
+/// Tells whether the byte is a letter or `_`, which may begin a label.
 fn is_letter(byte: u8) -> bool
     ensures { result ≡ is_letter byte }
 {
     (byte >= b'A' && byte <= b'Z') || (byte >= b'a' && byte <= b'z') || byte == b'_'
 }
 
+/// Tells whether the byte is a letter, a digit or `_`.
 fn is_label_byte(byte: u8) -> bool
     ensures { result ≡ is_label_byte byte }
 {
     is_letter(byte) || (byte >= b'0' && byte <= b'9')
 }
 
+/// Tells whether each byte of the word is a letter, a digit or `_`.
 fn are_label_bytes(word: &[u8]) -> bool
     ensures { result ≡ list_all is_label_byte word.now }
 {
     word.iter().all(|b| is_label_byte(*b))
 }
 
-/// Whether a word is the name of a label: a letter or `_`, then up to 31 letters, digits or `_`.
+/// Tells whether a word is the name of a label: a letter or `_`, then up to 31 letters, digits or `_`.
 pub fn is_label(word: &[u8]) -> bool
     ensures { result ≡ is_label word.now }
 {

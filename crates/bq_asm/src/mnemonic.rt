@@ -25,6 +25,7 @@ pub enum Mnemonic {
     Exit,
 }
 
+/// Returns the first word of an arithmetic operation, without the width.
 fn op_name(op: Operation) -> &'static str
     ensures { result.now ≡ op_name op }
 {
@@ -46,6 +47,7 @@ fn op_name(op: Operation) -> &'static str
     }
 }
 
+/// Returns the first word of a branch on a condition, without the width.
 fn cond_name(cond: Condition) -> &'static str
     ensures { result.now ≡ cond_name cond }
 {
@@ -64,6 +66,7 @@ fn cond_name(cond: Condition) -> &'static str
     }
 }
 
+/// Returns the number of bits of a width, as the end of a first word.
 fn width_name(width: Width) -> &'static str
     ensures { result.now ≡ width_name width }
 {
@@ -73,6 +76,7 @@ fn width_name(width: Width) -> &'static str
     }
 }
 
+/// Returns the letters for the size of a load or store, as the end of a first word.
 fn size_name(size: Size) -> &'static str
     ensures { result.now ≡ size_name size }
 {
@@ -84,6 +88,7 @@ fn size_name(size: Size) -> &'static str
     }
 }
 
+/// Returns the first word of a byte order, without the number of bits.
 fn order_name(order: Order) -> &'static str
     ensures { result.now ≡ order_name order }
 {
@@ -94,6 +99,7 @@ fn order_name(order: Order) -> &'static str
     }
 }
 
+/// Returns the number of bits, as the end of a first word.
 fn bits_name(bits: Bits) -> &'static str
     ensures { result.now ≡ bits_name bits }
 {
@@ -105,7 +111,7 @@ fn bits_name(bits: Bits) -> &'static str
     }
 }
 
-/// The two halves of a first word: what the instruction does, and the width or size on which it works.
+/// Returns the two halves of a first word: what the instruction does, and the width or size on which it works.
 fn halves(mnemonic: Mnemonic) -> (&'static str, &'static str)
     ensures { result.0.now ++ result.1.now ≡ mnemonic_word mnemonic }
 {
@@ -134,6 +140,7 @@ impl fmt::Display for Mnemonic {
 
     ghost output = { λ m. Some (mnemonic_word m) };
 
+    /// Writes the first word.
     fn fmt<W: fmt::Write>(&self, f: &mut fmt::Formatter<W>) -> fmt::Result {
         let (stem, ending) = halves(*self);
         write!(f, "{stem}{ending}")

@@ -5,7 +5,7 @@ ghost use Rattle.bq_asm.specs.Numbers.{negative, imm_of, offset_of, distance_in_
 
 use bq_words::value;
 
-/// The number that a word writes, from -2^31 to 2^31 - 1; `None` if it writes none.
+/// Returns the number that a word writes, from -2^31 to 2^31 - 1; `None` if it writes none.
 pub fn imm_of(word: &[u8]) -> Option<i32>
     ensures { result ≡ imm_of word.now }
 {
@@ -15,7 +15,7 @@ pub fn imm_of(word: &[u8]) -> Option<i32>
     }
 }
 
-/// The number that digits write after a `-`, down to -2^31.
+/// Returns the number that digits write after a `-`, down to -2^31; `None` if they write none.
 fn below_zero(digits: &[u8]) -> Option<i32>
     ensures { result ≡ option_map negative (below (2 ^ 31 + 1) (value_of digits.now)) }
 {
@@ -26,14 +26,14 @@ fn below_zero(digits: &[u8]) -> Option<i32>
     Some((-(size as i64)) as i32)
 }
 
-/// The number that digits write without a `-`, up to 2^31 - 1.
+/// Returns the number that digits write without a `-`, up to 2^31 - 1; `None` if they write none.
 fn from_zero(digits: &[u8]) -> Option<i32>
     ensures { result ≡ option_map (λ n. pos n) (below (2 ^ 31) (value_of digits.now)) }
 {
     i32::try_from(value(digits)?).ok()
 }
 
-/// The number that a word writes with a sign, from -2^15 to 2^15 - 1; `None` if it writes none.
+/// Returns the number that a word writes with a sign, from -2^15 to 2^15 - 1; `None` if it writes none.
 pub fn offset_of(word: &[u8]) -> Option<i16>
     ensures { result ≡ offset_of word.now }
 {
@@ -48,7 +48,7 @@ pub fn offset_of(word: &[u8]) -> Option<i16>
     i16::try_from(value(digits)?).ok()
 }
 
-/// The number that a word writes with a sign, from -2^31 to 2^31 - 1; `None` if it writes none.
+/// Returns the number that a word writes with a sign, from -2^31 to 2^31 - 1; `None` if it writes none.
 pub fn distance_of(word: &[u8]) -> Option<i32>
     ensures { result ≡ distance_in_word word.now }
 {
@@ -58,7 +58,7 @@ pub fn distance_of(word: &[u8]) -> Option<i32>
     }
 }
 
-/// The number that a word writes, from 0 to 2^64 - 1; `None` if it writes none.
+/// Returns the number that a word writes, from 0 to 2^64 - 1; `None` if it writes none.
 pub fn wide_of(word: &[u8]) -> Option<u64>
     ensures { result ≡ wide_of word.now }
 {
@@ -74,7 +74,7 @@ pub fn wide_of(word: &[u8]) -> Option<u64>
     }
 }
 
-/// The register that a word names, `r0` to `r10`; `None` if it names none.
+/// Returns the register that a word names, `r0` to `r10`; `None` if it names none.
 pub fn register_of(word: &[u8]) -> Option<u8>
     ensures { result ≡ register_named word.now }
 {
@@ -95,7 +95,7 @@ pub fn register_of(word: &[u8]) -> Option<u8>
     }
 }
 
-/// The word begins with a digit, a `+` or a `-`.
+/// Tells whether the word begins with a digit, a `+` or a `-`.
 pub fn begins_number(word: &[u8]) -> bool
     ensures { result ≡ begins_number word.now }
 {

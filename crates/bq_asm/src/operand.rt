@@ -15,6 +15,7 @@ pub enum Operand {
     Far(i32),
 }
 
+/// A number that is displayed with its sign, `+` or `-`.
 #[derive(Clone, Copy)]
 struct Signed(i32);
 
@@ -23,6 +24,7 @@ impl fmt::Display for Signed {
 
     ghost output = { λ s. Some (signed_text s.0) };
 
+    /// Writes the number with its sign.
     fn fmt<W: fmt::Write>(&self, f: &mut fmt::Formatter<W>) -> fmt::Result {
         let number = self.0;
         if number < 0 {
@@ -37,6 +39,7 @@ impl fmt::Display for Operand {
 
     ghost output = { λ o. Some (operand_text o) };
 
+    /// Writes the operand.
     fn fmt<W: fmt::Write>(&self, f: &mut fmt::Formatter<W>) -> fmt::Result {
         match *self {
             Operand::Register(register) => write!(f, "r{register}"),
@@ -63,6 +66,7 @@ impl fmt::Display for Operands {
 
     ghost output = { λ o. Some (operands_text (list_of o)) };
 
+    /// Writes the operands, a space before the first and a comma and a space between them.
     fn fmt<W: fmt::Write>(&self, f: &mut fmt::Formatter<W>) -> fmt::Result {
         match *self {
             Operands::Zero => Ok(()),

@@ -26,7 +26,8 @@ pub enum OperandKind {
     Far,
 }
 
-/// The operand of this kind that a word writes. Until all labels are known, a label stands for the distance 0.
+/// Returns the operand of this kind that a word writes, or the cause why it writes none. Until all labels are known, a
+/// label stands for the distance 0.
 pub fn operand_of(kind: OperandKind, word: &[u8]) -> Result<Operand, AssemblyCause>
     ensures { result ≡ operand_of kind word.now (Some (pos 0)) }
 {
@@ -51,6 +52,7 @@ pub fn operand_of(kind: OperandKind, word: &[u8]) -> Result<Operand, AssemblyCau
     }
 }
 
+/// Returns the operand, or the cause why the word in the place of a number has none: A2 if it begins like a number, else A1.
 fn number_place(value: Option<Operand>, word: &[u8]) -> Result<Operand, AssemblyCause>
     ensures { result ≡ number_place value word.now }
 {
@@ -65,6 +67,7 @@ fn number_place(value: Option<Operand>, word: &[u8]) -> Result<Operand, Assembly
     }
 }
 
+/// Returns the register that a word names, or the cause A1.
 fn register_place(word: &[u8]) -> Result<Operand, AssemblyCause>
     ensures { result ≡ operand_of OperandKind.Register word.now (Some (pos 0)) }
 {
@@ -74,6 +77,7 @@ fn register_place(word: &[u8]) -> Result<Operand, AssemblyCause>
     }
 }
 
+/// Returns the register that a word names or the number that it writes, or the cause why it does neither.
 fn source_place(word: &[u8]) -> Result<Operand, AssemblyCause>
     ensures { result ≡ operand_of OperandKind.Source word.now (Some (pos 0)) }
 {
@@ -83,6 +87,7 @@ fn source_place(word: &[u8]) -> Result<Operand, AssemblyCause>
     }
 }
 
+/// Returns the place in memory that a word writes, such as `[r1+8]`, or the cause why it writes none.
 fn memory_place(word: &[u8]) -> Result<Operand, AssemblyCause>
     ensures { result ≡ operand_of OperandKind.Memory word.now (Some (pos 0)) }
 {
@@ -95,6 +100,7 @@ fn memory_place(word: &[u8]) -> Result<Operand, AssemblyCause>
     }
 }
 
+/// Returns what stands between the brackets of a word; `None` if the word has no `[` at its start or no `]` at its end.
 fn inside(word: &[u8]) -> Option<&[u8]>
     ensures { option_map (λ w. w.now) result ≡ inside word.now }
 {
@@ -104,18 +110,21 @@ fn inside(word: &[u8]) -> Option<&[u8]>
     None
 }
 
+/// Returns the place of the first `+` or `-`, if there is one.
 fn first_sign(inner: &[u8]) -> Option<usize>
     ensures { result ≡ position is_sign inner.now }
 {
     inner.iter().position(|b| is_sign(*b))
 }
 
+/// Tells whether the byte is `+` or `-`.
 fn is_sign(byte: u8) -> bool
     ensures { result ≡ is_sign byte }
 {
     byte == b'+' || byte == b'-'
 }
 
+/// Returns the place in memory at an offset from a register; if there is no offset, the place is at the register.
 fn based(register: Option<u8>, rest: &[u8]) -> Result<Operand, AssemblyCause>
     ensures { result ≡ based register rest.now }
 {

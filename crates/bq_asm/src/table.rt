@@ -108,7 +108,7 @@ static MNEMONICS: [(&str, Mnemonic); 87] = [
     ("exit", Exit),
 ];
 
-/// The mnemonic of the first entry with this word; `None` if no entry has it.
+/// Returns the mnemonic of the first entry with this word; `None` if no entry has it.
 fn look_up(entries: &[(&str, Mnemonic)], word: &[u8]) -> Option<Mnemonic>
     ensures { result ≡ entry_with word.now (by_bytes entries.now) }
 {
@@ -120,15 +120,15 @@ fn look_up(entries: &[(&str, Mnemonic)], word: &[u8]) -> Option<Mnemonic>
     None
 }
 
-/// All first words with the mnemonics that they say. If two words are equally near to an unknown word, the first one is
-/// likelier.
+/// Returns all first words with the mnemonics that they say. If two words are equally near to an unknown word, the first
+/// one is likelier.
 pub fn mnemonics() -> &'static [(&'static str, Mnemonic)]
     ensures { by_bytes result.now ≡ table }
 {
     &MNEMONICS
 }
 
-/// The mnemonic that a first word says; `None` if the table has no such word.
+/// Returns the mnemonic that a first word says; `None` if the table has no such word.
 pub fn named(word: &[u8]) -> Option<Mnemonic>
     ensures { result ≡ named word.now }
 {
