@@ -11,9 +11,9 @@ use Rattle.bq_hooks.specs.declared.hook.Hook.{Hook}
 use Rattle.bq_hooks.specs.declared.hook.Hook.TheVariants.{Place, Preempt, Pull}
 use Rattle.bq_hooks.specs.declared.hook.Version.{Version}
 use Rattle.bq_verify.specs.Accepted.{Accepted}
-use Rattle.bq_installed.specs.Attachments.{Attached, Attachments, none_attached, with_attached}
+use Rattle.bq_installed.specs.Installed.{InstalledFacts, HooksFacts, new_hooks, with_installed}
 use Rattle.bq_hooks.specs.Permitted.{task_numbered}
-use Rattle.bq_installed.specs.Standing.{IsEquipped, MayBeAttached, AreReady}
+use Rattle.bq_installed.specs.Standing.{IsEquipped, MayBeInstalled, AreReady}
 use Rattle.bq_parts.specs.declared.event.Event.{Event}
 use Rattle.bq_parts.specs.declared.event.Event.TheVariants as event
 use Rattle.bq_parts.specs.declared.reply.Reply.{Reply}
@@ -50,7 +50,7 @@ well_at w processor q all well = at_set (λ n (p : Processor). IsWell p) w.proce
 pub opening_well : IsWell new_processor
 opening_well = record { rising = tt; ready = none }
   where
-    none : AreReady none_attached
+    none : AreReady new_hooks
     none Place = (tt, tt)
     none Preempt = (tt, tt)
     none Pull = (tt, tt)
@@ -102,8 +102,8 @@ rising_taken p (Some id) h = IsRising-without id p.queue h
 -- Hooks
 
 -- something else that may stand there
-ready_with : (hooks : Attachments) (hook : Hook) (new : Attached)
-    → AreReady hooks → MayBeAttached hook new → AreReady (with_attached hook hooks new)
+ready_with : (hooks : HooksFacts) (hook : Hook) (new : InstalledFacts)
+    → AreReady hooks → MayBeInstalled hook new → AreReady (with_installed hook hooks new)
 ready_with hooks Place new h m Place = m
 ready_with hooks Place new h m Preempt = h Preempt
 ready_with hooks Place new h m Pull = h Pull
@@ -116,18 +116,18 @@ ready_with hooks Pull new h m Pull = m
 
 -- a policy that was asked stands there as before, with maps of its shapes
 settled_stands : (s : PolicySemantics) (hook : Hook) (policy : Option Accepted) (context : Version → List ℕ)
-    (attached : Attached) (now processor : ℕ) (permitted : ℕ → Bool) (own : ℕ) (settled : SettledChoice)
-    → attached.policy ≡ policy → SettlesBy s policy context attached now processor permitted own settled
-    → MayBeAttached hook attached
-    → MayBeAttached hook settled.attached
-settled_stands s hook None context attached now processor permitted own settled is h m = rw h m
-settled_stands s hook (Some p) context attached now processor permitted own settled is h m =
-    let had : IsEquipped (Some p) attached.maps = subst (λ (o : Option Accepted). IsEquipped o attached.maps) is m.1 in
+    (installed : InstalledFacts) (now processor : ℕ) (permitted : ℕ → Bool) (own : ℕ) (settled : SettledChoice)
+    → installed.policy ≡ policy → SettlesBy s policy context installed now processor permitted own settled
+    → MayBeInstalled hook installed
+    → MayBeInstalled hook settled.installed
+settled_stands s hook None context installed now processor permitted own settled is h m = rw h m
+settled_stands s hook (Some p) context installed now processor permitted own settled is h m =
+    let had : IsEquipped (Some p) installed.maps = subst (λ (o : Option Accepted). IsEquipped o installed.maps) is m.1 in
     rw h.leaves (m.0, subst (λ (o : Option Accepted). IsEquipped o h.maps) (sym is) (had.0, h.shapes))
 
 -- what is left at the preempt hook by a decision may stand there
 preempt_stands : (s : PolicySemantics) (processor : ℕ) (p : Processor) (o : Option Task) (settled : SettledChoice)
-    → SettlesPreempt s processor p o settled → AreReady p.hooks → MayBeAttached Preempt settled.attached
+    → SettlesPreempt s processor p o settled → AreReady p.hooks → MayBeInstalled Preempt settled.installed
 preempt_stands s processor p None settled h ready = rw h (ready Preempt)
 preempt_stands s processor p (Some t) settled h ready =
     settled_stands s Preempt p.hooks.preempt.policy _ p.hooks.preempt p.running.last processor _ _ settled
@@ -142,7 +142,7 @@ decides_well s processor p settled q h well =
     let q' : IsWell (decided_by s p settled) = record {
       rising = rising_decided s.discipline p.running p.running.current (settled.choice == 1) well.rising;
       ready =
-          ready_with p.hooks Preempt settled.attached well.ready
+          ready_with p.hooks Preempt settled.installed well.ready
           (preempt_stands s processor p p.running.current settled h.0 well.ready);
     } in
     subst IsWell (sym h.1) q'
@@ -175,7 +175,7 @@ performs_well s w (event.EndWake processor now) calls r w' all k =
     let new =
     settled_stands s Place c.hooks.place.policy _ c.hooks.place c.running.last processor _ _ b.settled refl b.settles
     (well.ready Place) in
-    let q : IsWell k.1 = rw b.here (record { rising = well.rising; ready = ready_with c.hooks Place b.settled.attached well.ready new }) in
+    let q : IsWell k.1 = rw b.here (record { rising = well.rising; ready = ready_with c.hooks Place b.settled.installed well.ready new }) in
     rw k.4 (well_at w processor k.1 all q)
 performs_well s w (event.Drain processor now) calls r w' all k =
     let c = after_time s.discipline now (processor_at w processor) in
@@ -209,7 +209,7 @@ performs_well s w (event.Pull processor from now) calls r w' all k =
     (well.ready Pull) in
     let q : IsWell k.0 = rw x.here (record {
       rising = rising_started d (with_pulled d c.running taken) c.running.current (rising_pulled d c.running taken well.rising);
-      ready = ready_with c.hooks Pull x.settled.attached well.ready new;
+      ready = ready_with c.hooks Pull x.settled.installed well.ready new;
     }) in
     let o : IsWell k.1 = rw x.there (record { rising = rising_taken source task there.rising; ready = there.ready }) in
     rw k.3 (well_at (with_processor w processor k.0) from k.1 (well_at w processor k.0 all q) o)

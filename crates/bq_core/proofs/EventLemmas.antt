@@ -13,7 +13,7 @@ use Rattle.bq_parts.specs.Processors.{Processor, new_processor, count_of_id, in_
 use Rattle.bq_parts.specs.World.{World, processor_at, inbox, entry_of_id, with_processor, with_inbox}
 use Rattle.bq_parts.specs.Refusals.{is_absent, is_away}
 use Rattle.bq_disc.specs.Movable.{is_movable_to}
-use Rattle.bq_installed.specs.Attachments.{Attachments}
+use Rattle.bq_installed.specs.Installed.{HooksFacts}
 use Rattle.bq_hooks.specs.Contexts.{as_number}
 use Rattle.bq_disc.specs.Masks.{allows}
 use Rattle.bq_hooks.specs.OwnPlace.{HasPlace}
@@ -58,7 +58,7 @@ draw_tidy count w n y =
     record { many = y.many; boxes = y.boxes; away = y.away; blocked = y.blocked; hand = y.hand; present = y.present; placed = y.placed }
 
 -- what is installed at the hooks moves no task
-pub install_tidy : (count : ℕ) (w : World) (processor : ℕ) (hooks : Attachments)
+pub install_tidy : (count : ℕ) (w : World) (processor : ℕ) (hooks : HooksFacts)
     → IsTidy count [] w → processor < count
     → IsTidy count [] (with_processor w processor (record (processor_at w processor) { hooks = hooks }))
 install_tidy count w processor hooks y l =
@@ -87,7 +87,7 @@ begin_wake_tidy count w processor id t loads y l e empty =
     (y.present processor)
 
 -- a task goes from the hand to an inbox that suits it
-pub end_wake_tidy : (d : Discipline) (count : ℕ) (w : World) (processor now to : ℕ) (carried : Carried) (hooks : Attachments)
+pub end_wake_tidy : (d : Discipline) (count : ℕ) (w : World) (processor now to : ℕ) (carried : Carried) (hooks : HooksFacts)
     → IsTidy count [] w → processor < count → (processor_at w processor).hand ≡ Some carried
     → to < count → allows carried.task.mask to ≡ true
     → IsTidy count [] (with_inbox (with_processor w processor (record (charged_at d w processor now) { hand = None; hooks = hooks }))
@@ -178,7 +178,7 @@ taken_fits count processor from n p (Some id) fit may e =
     taken_by_cases count processor from id p (find_task id p.queue) fit (may_pull_names processor p.queue n id may e) refl
 
 -- a task goes from another processor's queue to this one's
-pub pull_tidy : (d : Discipline) (count : ℕ) (w : World) (processor from now n : ℕ) (task : Option ℕ) (hooks : Attachments)
+pub pull_tidy : (d : Discipline) (count : ℕ) (w : World) (processor from now n : ℕ) (task : Option ℕ) (hooks : HooksFacts)
     → IsTidy count [] w → processor < count → from < count → processor ≢ from
     → may_pull processor (processor_at w from).running.queue n ≡ true → task_numbered n ≡ task
     → IsTidy count [] (with_processor

@@ -6,7 +6,7 @@ use Rattle.bq_parts.specs.declared.event.Event.TheVariants.{Install}
 use Rattle.bq_hooks.specs.declared.hook.Hook.{Hook}
 use Rattle.bq_hooks.specs.declared.hook.Hook.TheVariants.{Place, Preempt, Pull}
 use Rattle.bq_verify.specs.Accepted.{Accepted}
-use Rattle.bq_installed.specs.Attachments.{IsFor}
+use Rattle.bq_installed.specs.Installed.{IsFor}
 use Rattle.bq_parts.specs.declared.refusal.Refusal.TheVariants as no
 use Rattle.bq_parts.specs.Refusals.{argument_refusal, same_hook, is_for}
 use Rattle.bq_parts.proofs.RefusalLemmas.{not_refused_is_there, first_refusal_passed}

@@ -13,7 +13,7 @@ use Rattle.bq_interp.proofs.OneRunLemmas.{one_run}
 use Rattle.bq_hooks.specs.declared.hook.Version.{Version}
 use Rattle.bq_hooks.specs.declared.hook.Version.TheVariants.{First, Second}
 use Rattle.bq_verify.specs.Accepted.{Accepted}
-use Rattle.bq_installed.specs.Attachments.{Attached}
+use Rattle.bq_installed.specs.Installed.{InstalledFacts}
 use Rattle.bq_hooks.specs.Contexts.{PlaceFacts, PreemptFacts, PullFacts, preempt_bytes, pull_bytes, as_number, or_nobody}
 use Rattle.bq_hooks.specs.OwnPlace.{own_place}
 use Rattle.bq_hooks.specs.Permitted.{may_place, may_preempt, may_pull}
@@ -44,34 +44,34 @@ place_small f Second = omega (arith, length-place_bytes_second f)
 
 -- settled choices with equal parts are equal
 same_settled : (x y : SettledChoice) → x.choice ≡ y.choice → x.by ≡ y.by → x.steps ≡ y.steps → x.calls ≡ y.calls
-    → x.attached ≡ y.attached
+    → x.installed ≡ y.installed
     → x ≡ y
-same_settled x y choice by steps calls attached =
+same_settled x y choice by steps calls installed =
     ap (λ c. record x { choice = c }) choice
     ∙ ap (λ b. record x { choice = y.choice; by = b }) by
     ∙ ap (λ n. record x { choice = y.choice; by = y.by; steps = n }) steps
     ∙ ap (λ c. record x { choice = y.choice; by = y.by; steps = y.steps; calls = c }) calls
-    ∙ ap (λ p. record y { attached = p }) attached
+    ∙ ap (λ p. record y { installed = p }) installed
 
 module _ (d : Discipline) where
   -- what is settled twice at a hook, on one context, is one if the counters answer alike, by hooks: any, preempt, place, pull
-  settles_one : (policy : Option Accepted) (context : Version → List ℕ) (attached : Attached) (now processor : ℕ)
+  settles_one : (policy : Option Accepted) (context : Version → List ℕ) (installed : InstalledFacts) (now processor : ℕ)
       (permitted : ℕ → Bool) (own : ℕ) (x y : SettledChoice)
       → ((version : Version) → length (context version) < 2 ^ 16)
-      → SettlesBy (by_programs d) policy context attached now processor permitted own x
-      → SettlesBy (by_programs d) policy context attached now processor permitted own y → AnswerAlike x.calls y.calls
+      → SettlesBy (by_programs d) policy context installed now processor permitted own x
+      → SettlesBy (by_programs d) policy context installed now processor permitted own y → AnswerAlike x.calls y.calls
       → x ≡ y
-  settles_one None context attached now processor permitted own x y small h k alike = h ∙ sym k
-  settles_one (Some p) context attached now processor permitted own x y small h k alike =
+  settles_one None context installed now processor permitted own x y small h k alike = h ∙ sym k
+  settles_one (Some p) context installed now processor permitted own x y small h k alike =
       let one =
-      one_run (setting_of p (context p.version) now processor) (start attached.maps) x.steps y.steps x.calls y.calls h.r0 k.r0
+      one_run (setting_of p (context p.version) now processor) (start installed.maps) x.steps y.steps x.calls y.calls h.r0 k.r0
       h.maps k.maps (small p.version) h.answers k.answers alike in
       same_settled x y
       (h.choice ∙ ap (λ r. (chosen permitted (Some r) own).choice) one.2 ∙ sym k.choice)
       (h.by ∙ ap (λ r. (chosen permitted (Some r) own).by) one.2 ∙ sym k.by)
       one.0
       one.1
-      (h.leaves ∙ ap (λ maps. record attached { maps = maps }) one.3 ∙ sym k.leaves)
+      (h.leaves ∙ ap (λ maps. record installed { maps = maps }) one.3 ∙ sym k.leaves)
 
   preempt_one : (processor : ℕ) (p : Processor) (o : Option Task) (x y : SettledChoice)
       → SettlesPreempt (by_programs d) processor p o x → SettlesPreempt (by_programs d) processor p o y

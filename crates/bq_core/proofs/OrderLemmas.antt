@@ -9,7 +9,7 @@ use Rattle.bq_bpf.specs.declared.board.CounterCall.{CounterCall}
 use Rattle.bq_hooks.specs.declared.hook.Hook.{Hook}
 use Rattle.bq_verify.specs.Accepted.{Accepted}
 use Rattle.bq_installed.specs.Answers.{fresh_maps}
-use Rattle.bq_installed.specs.Attachments.{Attached, with_attached}
+use Rattle.bq_installed.specs.Installed.{InstalledFacts, with_installed}
 use Rattle.bq_hooks.specs.Contexts.{or_nobody}
 use Rattle.bq_hooks.specs.OwnPlace.{own_place, HasPlace}
 use Rattle.bq_hooks.specs.Permitted.{may_place, may_pull, task_numbered}
@@ -78,9 +78,9 @@ install_keeps : (s : PolicySemantics) (w : World) (processor : ℕ) (hook : Hook
     → Performs s w (Install processor hook g policy) calls r w'
     → Keeps w w'
 install_keeps s w processor hook g policy calls r w' y h k =
-    let new : Attached = record { policy = policy; generation = g; maps = fresh_maps policy } in
+    let new : InstalledFacts = record { policy = policy; generation = g; maps = fresh_maps policy } in
     let l = (not_refused_is_there (count_in w) processor _ (accepted w (Install processor hook g policy) h).0).0 in
-    rw (k.3, k.1.2) (EventLemmas.install_tidy (count_in w) w processor (with_attached hook (processor_at w processor).hooks new) y l)
+    rw (k.3, k.1.2) (EventLemmas.install_tidy (count_in w) w processor (with_installed hook (processor_at w processor).hooks new) y l)
 
 begin_wake_keeps : (s : PolicySemantics) (w : World) (processor id : ℕ) (calls : List CounterCall) (r : Reply) (w' : World)
     → IsTidy (count_in w) [] w → refusal w (BeginWake processor id) ≡ None → Performs s w (BeginWake processor id) calls r w'
@@ -113,7 +113,7 @@ end_wake_keeps s w processor now calls r w' y h k =
     (own_place_permitted (count_in w) carried.loads carried.task (y.hand processor carried b.in_hand)) b.settles in
     let fits = may_place_fits (count_in w) carried.task to (subst (λ n. may_place (count_in w) carried.task n ≡ true) (sym b.to) goes) in
     rw (k.4, b.here, b.task) (EventLemmas.end_wake_tidy s.discipline (count_in w) w processor now to carried
-    (record p.hooks { place = settled.attached }) y l b.in_hand fits.0 fits.1)
+    (record p.hooks { place = settled.installed }) y l b.in_hand fits.0 fits.1)
 
 drain_keeps : (s : PolicySemantics) (w : World) (processor now : ℕ) (calls : List CounterCall) (r : Reply) (w' : World)
     → IsTidy (count_in w) [] w → refusal w (Drain processor now) ≡ None → Performs s w (Drain processor now) calls r w'
@@ -154,7 +154,7 @@ pull_keeps s w processor from now calls r w' o y h k =
     settled_permitted s _ p.hooks.pull p.running.last processor (may_pull processor source.running.queue)
     (or_nobody (own_pull processor p source)) settled (own_pull_permitted processor p source once) x.settles in
     rw (k.3, x.here, x.there) (EventLemmas.pull_tidy s.discipline (count_in w) w processor from now settled.choice
-    (task_numbered settled.choice) (record p.hooks { pull = settled.attached }) y f.0 g.0 apart may refl)
+    (task_numbered settled.choice) (record p.hooks { pull = settled.installed }) y f.0 g.0 apart may refl)
 
 -- an event that is not refused keeps a world tidy
 performs_tidy : (s : PolicySemantics) (w : World) (e : Event) (calls : List CounterCall) (r : Reply) (w' : World)

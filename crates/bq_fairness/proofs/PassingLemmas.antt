@@ -12,7 +12,7 @@ use Rattle.bq_cfs.specs.Spread.{processor_passed, departed, Block as BlockAt}
 use Rattle.bq_bpf.specs.declared.board.CounterCall.{CounterCall}
 use Rattle.bq_hooks.specs.declared.hook.Version.{Version}
 use Rattle.bq_verify.specs.Accepted.{Accepted}
-use Rattle.bq_installed.specs.Attachments.{Attached}
+use Rattle.bq_installed.specs.Installed.{InstalledFacts}
 use Rattle.bq_hooks.specs.declared.settled.By.TheVariants as who
 use Rattle.bq_hooks.specs.Contexts.{as_number}
 use Rattle.bq_hooks.specs.Permitted.{may_preempt}
@@ -42,12 +42,12 @@ own_by_test true permitted r0 own e h = let it = rw e at h in cc
 own_by_test false permitted r0 own e h = rw e refl
 
 -- a choice that was the discipline's own is its own
-own_choice : (s : PolicySemantics) (policy : Option Accepted) (context : Version → List ℕ) (attached : Attached)
+own_choice : (s : PolicySemantics) (policy : Option Accepted) (context : Version → List ℕ) (installed : InstalledFacts)
     (now processor : ℕ) (permitted : ℕ → Bool) (own : ℕ) (settled : SettledChoice)
-    → SettlesBy s policy context attached now processor permitted own settled → settled.by ≡ who.Discipline
+    → SettlesBy s policy context installed now processor permitted own settled → settled.by ≡ who.Discipline
     → settled.choice ≡ own
-own_choice s None context attached now processor permitted own settled h e = ap (λ (x : SettledChoice). x.choice) h
-own_choice s (Some policy) context attached now processor permitted own settled h e =
+own_choice s None context installed now processor permitted own settled h e = ap (λ (x : SettledChoice). x.choice) h
+own_choice s (Some policy) context installed now processor permitted own settled h e =
     h.choice ∙ own_by_test (permitted h.r0) permitted h.r0 own refl (sym h.by ∙ e)
 
 -- an answer, read back from its number, is the same

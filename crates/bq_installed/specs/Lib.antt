@@ -1,4 +1,4 @@
 pub mod Answers
-pub mod Attachments
+pub mod Installed
 pub mod Laws
 pub mod Standing

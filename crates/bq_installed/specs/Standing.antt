@@ -7,7 +7,7 @@ use Rattle.bq_hooks.specs.Hooks.{context_length_of}
 use Rattle.bq_bpf.specs.declared.board.CounterCall.{CounterCall}
 use Rattle.bq_bpf.specs.declared.runs.RunResult.{RunResult}
 use Rattle.bq_installed.specs.Answers.{Answers, RunsWithin}
-use Rattle.bq_installed.specs.Attachments.{Attached, Attachments, at_hook, IsFor}
+use Rattle.bq_installed.specs.Installed.{InstalledFacts, HooksFacts, at_hook, IsFor}
 
 -- the policy is within the limits of images, and safe within its budget
 abbrev pub WasAccepted : Accepted → Type 0
@@ -18,13 +18,13 @@ abbrev pub IsEquipped : Option Accepted → List (List ℕ) → Type 0
 IsEquipped None maps = Unit {0}
 IsEquipped (Some policy) maps = WasAccepted policy × HaveShapes policy.shapes maps
 
--- what is attached may be at this hook: its policy, if any, was accepted for it
-abbrev pub MayBeAttached : Hook → Attached → Type 0
-MayBeAttached hook attached = IsFor hook attached.policy × IsEquipped attached.policy attached.maps
+-- what is installed may be at this hook: its policy, if any, was accepted for it
+abbrev pub MayBeInstalled : Hook → InstalledFacts → Type 0
+MayBeInstalled hook installed = IsFor hook installed.policy × IsEquipped installed.policy installed.maps
 
--- whatever is attached at the hooks of a processor may be there
-abbrev pub AreReady : Attachments → Type 0
-AreReady hooks = (hook : Hook) → MayBeAttached hook (at_hook hook hooks)
+-- whatever is installed at the hooks of a processor may be there
+abbrev pub AreReady : HooksFacts → Type 0
+AreReady hooks = (hook : Hook) → MayBeInstalled hook (at_hook hook hooks)
 
 -- a policy was accepted, and is shown a context of its length, maps of its shapes, a clock reading and a processor's number
 pub record IsAsked (policy : Accepted) (context : List ℕ) (maps : List (List ℕ)) (now processor : ℕ) : Type 0 where

@@ -6,7 +6,7 @@ ghost use Rattle.bq_hooks.specs.Hooks.{context_length_of};
 ghost use Rattle.bq_bpf.specs.Memory.{HaveShapes};
 ghost use Rattle.bq_installed.specs.Answers.{RunsWithin};
 ghost use Rattle.bq_installed.specs.Standing.{WasAnswered};
-ghost use Rattle.bq_installed.specs.Attachments.{AnswersAt, none_attached, at_hook, with_attached, IsFor};
+ghost use Rattle.bq_installed.specs.Installed.{AnswersAt, new_hooks, at_hook, with_installed, IsFor};
 
 use crate::{Installed, Scratch};
 use bq_bpf::{Board, Env, RunResult};
@@ -22,10 +22,10 @@ pub struct Hooks {
 }
 
 impl Model for Hooks {
-    ghost use Rattle.bq_installed.specs.Attachments.{Attachments, IsFor};
+    ghost use Rattle.bq_installed.specs.Installed.{HooksFacts, IsFor};
     ghost use Rattle.bq_hooks.specs.declared.hook.Hook.TheVariants.{Place, Preempt, Pull};
 
-    ghost Value = { Attachments };
+    ghost Value = { HooksFacts };
 
     ghost view = { λ h. record { place = h.place; preempt = h.preempt; pull = h.pull } };
 
@@ -35,7 +35,7 @@ impl Model for Hooks {
 impl Hooks {
     /// Hooks at which nothing has been installed yet.
     pub fn new() -> Hooks
-        ensures { result ≡ none_attached }
+        ensures { result ≡ new_hooks }
     {
         Hooks {
             place: Installed::nothing(),
@@ -58,7 +58,7 @@ impl Hooks {
     /// Replaces what is installed at a hook.
     pub fn install(&mut self, hook: Hook, installed: Installed)
         requires { IsFor hook installed.policy }
-        ensures { self.new ≡ with_attached hook self.old installed }
+        ensures { self.new ≡ with_installed hook self.old installed }
     {
         match hook {
             Hook::Place => self.place.give_way_to(installed),
@@ -105,7 +105,7 @@ impl Hooks {
         ensures answers { AnswersAt (at_hook hook self.old) context.now env.now env.processor result.r0 (at_hook hook self.new).maps result.steps scratch.new }
         ensures within { IfSome (at_hook hook self.old).policy (λ p. RunsWithin p result.steps scratch.new) }
         ensures shapes { IfSome (at_hook hook self.old).policy (λ p. HaveShapes p.shapes (at_hook hook self.new).maps) }
-        ensures stays { self.new ≡ with_attached hook self.old (record (at_hook hook self.old) { maps = (at_hook hook self.new).maps }) }
+        ensures stays { self.new ≡ with_installed hook self.old (record (at_hook hook self.old) { maps = (at_hook hook self.new).maps }) }
         ensures board { Through B.leads board.old scratch.new board.new }
     {
         match hook {

@@ -6,7 +6,7 @@ ghost use Rattle.bq_hooks.specs.Hooks.{context_length_of};
 ghost use Rattle.bq_bpf.specs.Memory.{HaveShapes};
 ghost use Rattle.bq_installed.specs.Answers.{Answers, RunsWithin, fresh_maps};
 ghost use Rattle.bq_installed.specs.Standing.{IsEquipped, WasAnswered};
-ghost use Rattle.bq_installed.specs.Attachments.{AnswersAt, nothing_attached};
+ghost use Rattle.bq_installed.specs.Installed.{AnswersAt, nothing_installed, policy_of, maps_of};
 
 use crate::{Policy, Scratch};
 use bq_bpf::{Board, Env, RunResult};
@@ -26,10 +26,10 @@ pub struct Installed {
 }
 
 impl Model for Installed {
-    ghost use Rattle.bq_installed.specs.Attachments.{Attached, policy_in, maps_in};
+    ghost use Rattle.bq_installed.specs.Installed.{InstalledFacts, policy_in, maps_in};
     ghost use Rattle.bq_installed.specs.Standing.{IsEquipped, WasAnswered};
 
-    ghost Value = { Attached };
+    ghost Value = { InstalledFacts };
 
     ghost view = { λ i. record { policy = policy_in i.equipped; generation = i.generation; maps = maps_in i.equipped } };
 
@@ -39,7 +39,7 @@ impl Model for Installed {
 impl Installed {
     /// What a hook has before anything is installed: no policy, generation 0.
     pub fn nothing() -> Installed
-        ensures { result ≡ nothing_attached }
+        ensures { result ≡ nothing_installed }
     {
         Installed {
             equipped: None,
@@ -154,10 +154,10 @@ pub struct Equipped {
 }
 
 impl Model for Equipped {
-    ghost use Rattle.std.specs.Prelude.{◌≡◌, List, ℕ};
-    ghost use Rattle.bq_verify.specs.Accepted.{Accepted};
+    ghost use Rattle.std.specs.Prelude.{◌≡◌};
+    ghost use Rattle.bq_installed.specs.Installed.{EquippedFacts};
 
-    ghost Value = { Accepted × List (List ℕ) };
+    ghost Value = { EquippedFacts };
 
     ghost view = { λ e. (e.policy, e.maps.bytes) };
 
@@ -167,9 +167,9 @@ impl Model for Equipped {
 impl Equipped {
     /// The policy, with maps of zeros.
     fn new(alloc: Global, policy: Policy) -> Result<Equipped, AllocError>
-        ensures policy { IfOk result (λ e. e.0 ≡ policy) }
-        ensures maps { IfOk result (λ e. e.1 ≡ fresh_maps (Some policy)) }
-        ensures equipped { IfOk result (λ e. IsEquipped (Some e.0) e.1) }
+        ensures policy { IfOk result (λ e. policy_of e ≡ policy) }
+        ensures maps { IfOk result (λ e. maps_of e ≡ fresh_maps (Some policy)) }
+        ensures equipped { IfOk result (λ e. IsEquipped (Some (policy_of e)) (maps_of e)) }
     {
         let maps = Maps::new(alloc, policy.program().shapes())?;
         let _sizes = maps.shapes();
@@ -177,13 +177,13 @@ impl Equipped {
     }
 
     fn policy(&self) -> &Policy
-        ensures { result.now ≡ self.now.0 }
+        ensures { result.now ≡ policy_of self.now }
     {
         &self.policy
     }
 
     fn version(&self) -> Version
-        ensures { result ≡ self.now.0.version }
+        ensures { result ≡ (policy_of self.now).version }
     {
         self.policy.version()
     }
@@ -196,11 +196,11 @@ impl Equipped {
         scratch: &mut Scratch,
         board: &mut B,
     ) -> RunResult
-        requires context { length context.now ≡ context_length_of self.old.0.hook self.old.0.version }
-        ensures answers { Answers self.old.0 context.now self.old.1 env.now env.processor result.r0 self.new.1 result.steps scratch.new }
-        ensures within { RunsWithin self.old.0 result.steps scratch.new }
-        ensures equipped { IsEquipped (Some self.new.0) self.new.1 }
-        ensures policy { self.new.0 ≡ self.old.0 }
+        requires context { length context.now ≡ context_length_of (policy_of self.old).hook (policy_of self.old).version }
+        ensures answers { Answers (policy_of self.old) context.now (maps_of self.old) env.now env.processor result.r0 (maps_of self.new) result.steps scratch.new }
+        ensures within { RunsWithin (policy_of self.old) result.steps scratch.new }
+        ensures equipped { IsEquipped (Some (policy_of self.new)) (maps_of self.new) }
+        ensures policy { policy_of self.new ≡ policy_of self.old }
         ensures board { Through B.leads board.old scratch.new board.new }
     {
         let done = run_into(

@@ -8,7 +8,7 @@ use Rattle.bq_parts.specs.declared.reply.Reply.{Reply}
 use Rattle.bq_parts.specs.declared.refusal.Refusal.{Refusal}
 use Rattle.bq_parts.specs.Processors.{Processor}
 use Rattle.bq_parts.specs.Shares.{Admits, Retires, Blocks, Installs}
-use Rattle.bq_installed.specs.Attachments.{Attached}
+use Rattle.bq_installed.specs.Installed.{InstalledFacts}
 use Rattle.bq_hooks.specs.declared.hook.Hook.{Hook}
 
 -- no admission is answered by loads
@@ -31,7 +31,7 @@ blocks_brief d processor now p lobby (Ok r) q lobby' s = ap (λ (x : Reply). has
 blocks_brief d processor now p lobby (Err e) q lobby' s = refl
 
 -- no installation of a policy is answered by loads
-pub installs_brief : (h : Hook) (drawn : ℕ) (p : Processor) (new : Attached) (a : Result Reply Refusal) (q : Processor)
+pub installs_brief : (h : Hook) (drawn : ℕ) (p : Processor) (new : InstalledFacts) (a : Result Reply Refusal) (q : Processor)
     → Installs h drawn p new a q → has_loads a ≡ false
 installs_brief h drawn p new (Ok r) q s = ap (λ (x : Reply). has_loads (Ok x)) s.1
 installs_brief h drawn p new (Err e) q s = refl

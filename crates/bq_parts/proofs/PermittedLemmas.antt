@@ -11,7 +11,7 @@ use Rattle.bq_disc.specs.Pulls.{movable, pulled_before}
 use Rattle.bq_disc.specs.Movable.{is_movable_to}
 use Rattle.bq_hooks.specs.declared.hook.Version.{Version}
 use Rattle.bq_verify.specs.Accepted.{Accepted}
-use Rattle.bq_installed.specs.Attachments.{Attached}
+use Rattle.bq_installed.specs.Installed.{InstalledFacts}
 use Rattle.bq_hooks.specs.Contexts.{nobody, or_nobody}
 use Rattle.bq_disc.specs.Masks.{allows}
 use Rattle.bq_hooks.specs.Permitted.{may_place, may_pull, task_numbered}
@@ -33,21 +33,21 @@ pub answer_is_permitted : (permitted : ℕ → Bool) (r0 own : ℕ)
 answer_is_permitted permitted r0 own o = by_test (permitted r0) permitted r0 own refl o
 
 -- if the own choice is permitted, what is settled is, with a policy or without one
-settles_by : (s : PolicySemantics) (policy : Option Accepted) (context : Version → List ℕ) (attached : Attached)
+settles_by : (s : PolicySemantics) (policy : Option Accepted) (context : Version → List ℕ) (installed : InstalledFacts)
     (now processor : ℕ) (permitted : ℕ → Bool) (own : ℕ) (settled : SettledChoice)
-    → permitted own ≡ true → SettlesBy s policy context attached now processor permitted own settled
+    → permitted own ≡ true → SettlesBy s policy context installed now processor permitted own settled
     → permitted settled.choice ≡ true
-settles_by s None context attached now processor permitted own settled o h = ap (λ (x : SettledChoice). permitted x.choice) h ∙ o
-settles_by s (Some policy) context attached now processor permitted own settled o h =
+settles_by s None context installed now processor permitted own settled o h = ap (λ (x : SettledChoice). permitted x.choice) h ∙ o
+settles_by s (Some policy) context installed now processor permitted own settled o h =
     ap permitted h.choice ∙ answer_is_permitted permitted h.r0 own o
 
 -- where the own choice is permitted, what is settled is
-pub settled_permitted : (s : PolicySemantics) (context : Version → List ℕ) (attached : Attached) (now processor : ℕ)
+pub settled_permitted : (s : PolicySemantics) (context : Version → List ℕ) (installed : InstalledFacts) (now processor : ℕ)
     (permitted : ℕ → Bool) (own : ℕ) (settled : SettledChoice)
-    → permitted own ≡ true → Settles s context attached now processor permitted own settled
+    → permitted own ≡ true → Settles s context installed now processor permitted own settled
     → permitted settled.choice ≡ true
-settled_permitted s context attached now processor permitted own settled o h =
-    settles_by s attached.policy context attached now processor permitted own settled o h
+settled_permitted s context installed now processor permitted own settled o h =
+    settles_by s installed.policy context installed now processor permitted own settled o h
 
 -- a place that is permitted is a processor of the machine that the mask allows
 pub may_place_fits : (count : ℕ) (t : Task) (p : ℕ) → may_place count t p ≡ true → (p < count) × (allows t.mask p ≡ true)

@@ -11,7 +11,7 @@ use Rattle.bq_hooks.specs.declared.hook.Version.TheVariants.{First, Second}
 use Rattle.bq_verify.specs.Accepted.{Accepted}
 use Rattle.bq_bpf.specs.Memory.{HaveShapes}
 use Rattle.bq_installed.specs.Answers.{Answers, RunsWithin}
-use Rattle.bq_installed.specs.Attachments.{Attached}
+use Rattle.bq_installed.specs.Installed.{InstalledFacts}
 use Rattle.bq_hooks.specs.declared.settled.By.{By}
 use Rattle.bq_hooks.specs.declared.settled.By.TheVariants as who
 use Rattle.bq_hooks.specs.Contexts.{PlaceFacts, place_bytes_first, place_bytes_second, preempt_bytes, pull_bytes, as_number, or_nobody}
@@ -37,44 +37,44 @@ by_programs d = record { discipline = d; Answers = Answers }
 abbrev pub under_any_answers : Discipline → PolicySemantics
 under_any_answers d = record { discipline = d; Answers = λ policy context maps now processor r0 maps' steps calls. Unit {0} }
 
--- a choice, who made it, how many steps it took, what was asked of the counters, and what is attached to the hook afterwards
+-- a choice, who made it, how many steps it took, what was asked of the counters, and what is installed at the hook afterwards
 pub record SettledChoice : Type 0 where
   pub choice : ℕ
   pub by : By
   pub steps : ℕ
   pub calls : List CounterCall
-  pub attached : Attached
+  pub installed : InstalledFacts
 
--- a decision of a processor, with its choice as a number, its calls, and what is attached to the hook afterwards
-abbrev pub decision_of : {T : Type 0} → (T → ℕ) → HookDecision T → List CounterCall → Attached → SettledChoice
-decision_of number d calls attached = record { choice = number d.choice; by = d.by; steps = d.steps; calls = calls; attached = attached }
+-- a decision of a processor, with its choice as a number, its calls, and what is installed at the hook afterwards
+abbrev pub decision_of : {T : Type 0} → (T → ℕ) → HookDecision T → List CounterCall → InstalledFacts → SettledChoice
+decision_of number d calls installed = record { choice = number d.choice; by = d.by; steps = d.steps; calls = calls; installed = installed }
 
 -- the own choice, with no policy asked
-abbrev pub unasked : ℕ → Attached → SettledChoice
-unasked own attached = record { choice = own; by = who.Discipline; steps = 0; calls = []; attached = attached }
+abbrev pub unasked : ℕ → InstalledFacts → SettledChoice
+unasked own installed = record { choice = own; by = who.Discipline; steps = 0; calls = []; installed = installed }
 
 module _ (s : PolicySemantics) (policy : Accepted) where
   -- a policy that is asked settles the choice: it answers r0. If r0 is permitted, it is the choice; else the own choice is
-  pub record PolicySettles (context : Version → List ℕ) (attached : Attached) (now processor : ℕ) (permitted : ℕ → Bool) (own : ℕ) (settled : SettledChoice) : Type 0 where
+  pub record PolicySettles (context : Version → List ℕ) (installed : InstalledFacts) (now processor : ℕ) (permitted : ℕ → Bool) (own : ℕ) (settled : SettledChoice) : Type 0 where
     pub r0 : ℕ
     pub maps : List (List ℕ)
-    pub answers : s.Answers policy (context policy.version) attached.maps now processor r0 maps settled.steps settled.calls
+    pub answers : s.Answers policy (context policy.version) installed.maps now processor r0 maps settled.steps settled.calls
     pub choice : settled.choice ≡ (chosen permitted (Some r0) own).choice
     pub by : settled.by ≡ (chosen permitted (Some r0) own).by
     -- either way the maps stay as the policy left them, in their shapes
-    pub leaves : settled.attached ≡ record attached { maps = maps }
+    pub leaves : settled.installed ≡ record installed { maps = maps }
     pub shapes : HaveShapes policy.shapes maps
     -- it answers within its budget, with sixteen calls of counters at most
     pub within : RunsWithin policy settled.steps settled.calls
 
 -- if a policy is given, it settles the choice; else the choice is the discipline's own
-abbrev pub SettlesBy : PolicySemantics → Option Accepted → (Version → List ℕ) → Attached → ℕ → ℕ → (ℕ → Bool) → ℕ → SettledChoice → Type 0
-SettlesBy s None context attached now processor permitted own settled = settled ≡ unasked own attached
-SettlesBy s (Some policy) context attached now processor permitted own settled = PolicySettles s policy context attached now processor permitted own settled
+abbrev pub SettlesBy : PolicySemantics → Option Accepted → (Version → List ℕ) → InstalledFacts → ℕ → ℕ → (ℕ → Bool) → ℕ → SettledChoice → Type 0
+SettlesBy s None context installed now processor permitted own settled = settled ≡ unasked own installed
+SettlesBy s (Some policy) context installed now processor permitted own settled = PolicySettles s policy context installed now processor permitted own settled
 
--- the policy that is attached, if there is one, settles the choice
-abbrev pub Settles : PolicySemantics → (Version → List ℕ) → Attached → ℕ → ℕ → (ℕ → Bool) → ℕ → SettledChoice → Type 0
-Settles s context attached = SettlesBy s attached.policy context attached
+-- the policy that is installed, if there is one, settles the choice
+abbrev pub Settles : PolicySemantics → (Version → List ℕ) → InstalledFacts → ℕ → ℕ → (ℕ → Bool) → ℕ → SettledChoice → Type 0
+Settles s context installed = SettlesBy s installed.policy context installed
 
 -- the context of a placement, by the version of the policy's image
 abbrev pub place_bytes : PlaceFacts → Version → List ℕ
@@ -110,14 +110,14 @@ SettlesPull s processor from p other settled =
     Settles s (λ version. context) p.hooks.pull p.running.last processor (may_pull processor queue) (or_nobody own) settled
 
 -- the pulled task, or none, is the one whose number was chosen
-abbrev pub SettlesPulled : PolicySemantics → ℕ → ℕ → Processor → Processor → HookDecision (Option ℕ) → List CounterCall → Attached → Type 0
-SettlesPulled s processor from p other d calls attached =
-    (choice : ℕ) × SettlesPull s processor from p other (decision_of (λ task. choice) d calls attached) × (d.choice ≡ task_numbered choice)
+abbrev pub SettlesPulled : PolicySemantics → ℕ → ℕ → Processor → Processor → HookDecision (Option ℕ) → List CounterCall → InstalledFacts → Type 0
+SettlesPulled s processor from p other d calls installed =
+    (choice : ℕ) × SettlesPull s processor from p other (decision_of (λ task. choice) d calls installed) × (d.choice ≡ task_numbered choice)
 
 -- Decide: the processor after it was settled whether the current task gives way
 abbrev pub decided_by : PolicySemantics → Processor → SettledChoice → Processor
 decided_by s p settled =
     record p {
       running = decided s.discipline p.running p.running.current (settled.choice == 1);
-      hooks = record p.hooks { preempt = settled.attached };
+      hooks = record p.hooks { preempt = settled.installed };
     }

@@ -4,18 +4,18 @@ use Rattle.std.specs.Option.{option_map, option_to_list}
 use Rattle.bq_disc.specs.declared.limits.TheConstants.{TASKS}
 use Rattle.bq_disc.specs.Tasks.{Task, has_id}
 use Rattle.bq_disc.specs.OneProcessor.{Running, at_rest, present_at}
-use Rattle.bq_installed.specs.Attachments.{Attachments, none_attached}
+use Rattle.bq_installed.specs.Installed.{HooksFacts, new_hooks}
 use Rattle.bq_parts.specs.declared.carried.Carried.{Carried}
 
 -- a processor: its tasks, the woken task that it is to place, and what is installed at its hooks
 pub record Processor : Type 0 where
   pub running : Running
   pub hand : Option Carried
-  pub hooks : Attachments
+  pub hooks : HooksFacts
 
 -- a processor to which nothing has come, with nothing installed
 abbrev pub new_processor : Processor
-new_processor = record { running = at_rest; hand = None; hooks = none_attached }
+new_processor = record { running = at_rest; hand = None; hooks = new_hooks }
 
 -- the task in a processor's hand, if any
 abbrev pub in_hand : Processor → List Task

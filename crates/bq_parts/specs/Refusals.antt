@@ -8,7 +8,7 @@ use Rattle.bq_parts.specs.declared.lobby_entry.LobbyEntry.TheVariants.{Absent, S
 use Rattle.bq_hooks.specs.declared.hook.Hook.{Hook}
 use Rattle.bq_hooks.specs.declared.hook.Hook.TheVariants as hooks
 use Rattle.bq_verify.specs.Accepted.{Accepted}
-use Rattle.bq_installed.specs.Attachments.{at_hook}
+use Rattle.bq_installed.specs.Installed.{at_hook}
 use Rattle.bq_parts.specs.declared.event.Event.{Event}
 use Rattle.bq_parts.specs.declared.event.Event.TheVariants.{Admit, Retire, Draw, Install, BeginWake, EndWake, Drain, Tick, Block, Pull}
 use Rattle.bq_parts.specs.declared.refusal.Refusal.{Refusal}

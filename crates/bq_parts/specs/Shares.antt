@@ -15,8 +15,8 @@ use Rattle.bq_parts.specs.declared.carried.Carried.{Carried}
 use Rattle.bq_parts.specs.declared.wakes.Placement.{Placement}
 use Rattle.bq_parts.specs.Refusals.{is_absent, retire_refusal, begin_refusal, generation_refusal}
 use Rattle.bq_hooks.specs.declared.hook.Hook.{Hook}
-use Rattle.bq_installed.specs.Attachments.{Attached, at_hook, with_attached}
-use Rattle.bq_installed.specs.Standing.{MayBeAttached}
+use Rattle.bq_installed.specs.Installed.{InstalledFacts, at_hook, with_installed}
+use Rattle.bq_installed.specs.Standing.{MayBeInstalled}
 use Rattle.bq_hooks.specs.Permitted.{task_numbered}
 use Rattle.bq_parts.specs.Choices.{PolicySemantics, SettledChoice, SettlesPlace, SettlesPreempt, SettlesPull, decided_by}
 use Rattle.bq_parts.specs.Moves.{after_leaving, after_pull, as_it_leaves, without_task}
@@ -82,7 +82,7 @@ BeginsWake id loads p lobby (Err e) q lobby' = (begin_refusal (slice_index_or lo
 
 -- the processor with an empty hand, and at its place hook what the decision left there
 abbrev pub placed_by : Processor → SettledChoice → Processor
-placed_by p settled = record p { hand = None; hooks = record p.hooks { place = settled.attached } }
+placed_by p settled = record p { hand = None; hooks = record p.hooks { place = settled.installed } }
 
 -- time passes; then one of this many processors is chosen, and the task leaves the hand for it
 pub record PlacesTask (s : PolicySemantics) (count processor now : ℕ) (p : Processor) (calls : List CounterCall) (x : Placement) (q : Processor) : Type 0 where
@@ -103,10 +103,10 @@ abbrev pub Places : PolicySemantics → ℕ → ℕ → ℕ → Processor → Li
 Places s count processor now p calls None q = (calls ≡ []) × (p.hand ≡ None) × (q ≡ p)
 Places s count processor now p calls (Some x) q = PlacesTask s count processor now p calls x q
 
--- the new attachment replaces the one at the hook, or its generation is refused; this many generations were drawn
-abbrev pub Installs : Hook → ℕ → Processor → Attached → Result Reply Refusal → Processor → Type 0
+-- what is new replaces what is installed at the hook, or its generation is refused; this many generations were drawn
+abbrev pub Installs : Hook → ℕ → Processor → InstalledFacts → Result Reply Refusal → Processor → Type 0
 Installs h drawn p new (Ok r) q =
-    (generation_refusal (at_hook h p.hooks).generation drawn new.generation ≡ None) × (r ≡ Installed) × (q ≡ record p { hooks = with_attached h p.hooks new }) × MayBeAttached h new
+    (generation_refusal (at_hook h p.hooks).generation drawn new.generation ≡ None) × (r ≡ Installed) × (q ≡ record p { hooks = with_installed h p.hooks new }) × MayBeInstalled h new
 Installs h drawn p new (Err e) q = (generation_refusal (at_hook h p.hooks).generation drawn new.generation ≡ Some e) × (q ≡ p)
 
 -- a task of the other's queue, if one was chosen, enters this one's; if nothing ran, the queue's choice runs
@@ -114,7 +114,7 @@ abbrev pub pulled_by : PolicySemantics → Processor → Processor → SettledCh
 pulled_by s p other settled =
     record p {
       running = after_pull s.discipline p.running other.running (task_numbered settled.choice);
-      hooks = record p.hooks { pull = settled.attached };
+      hooks = record p.hooks { pull = settled.installed };
     }
 
 -- time passes here, and the other's mark is computed again; then a task, or none, goes from the other to here

@@ -4,7 +4,7 @@ ghost use Rattle.std.specs.Option.{option_map};
 ghost use Rattle.bq_bpf.specs.Counters.{Through};
 ghost use Rattle.bq_bpf.specs.Memory.{HaveShapes};
 ghost use Rattle.bq_installed.specs.Answers.{RunsWithin};
-ghost use Rattle.bq_installed.specs.Attachments.{AnswersAt};
+ghost use Rattle.bq_installed.specs.Installed.{AnswersAt};
 ghost use Rattle.bq_hooks.specs.Contexts.{as_number};
 ghost use Rattle.bq_hooks.specs.OwnPlace.{HasPlace};
 ghost use Rattle.bq_disc.specs.Queues.{HasDistinctIds};

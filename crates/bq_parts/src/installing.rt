@@ -1,6 +1,6 @@
 //! What an installation does to a processor.
 ghost use Rattle.std.specs.Prelude.{◌≡◌};
-ghost use Rattle.bq_installed.specs.Attachments.{IsFor};
+ghost use Rattle.bq_installed.specs.Installed.{IsFor};
 ghost use Rattle.bq_parts.specs.Refusals.{generation_refusal};
 ghost use Rattle.bq_parts.specs.Shares.{Installs};
 

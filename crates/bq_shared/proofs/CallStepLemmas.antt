@@ -9,7 +9,7 @@ use Rattle.bq_bpf.specs.declared.board.CounterCall.{CounterCall}
 use Rattle.bq_hooks.specs.declared.hook.Hook.{Hook}
 use Rattle.bq_verify.specs.Accepted.{Accepted}
 use Rattle.bq_installed.specs.Answers.{fresh_maps}
-use Rattle.bq_installed.specs.Attachments.{Attached}
+use Rattle.bq_installed.specs.Installed.{InstalledFacts}
 use Rattle.bq_parts.specs.declared.event.Event.TheVariants.{Admit, Retire, Draw, Install, BeginWake, EndWake, Tick, Drain, Block}
 use Rattle.bq_parts.specs.declared.reply.Reply.{Reply}
 use Rattle.bq_parts.specs.declared.reply.Reply.TheVariants.{Drawn, Placed}
@@ -264,7 +264,7 @@ module _ (d : Discipline) (n : ℕ) where
       (λ w s kw. ((rw (← kw) (refl, (refl, refl, refl)), refl, tt), ap (λ (x : JournalState). record x { drawn = g }) kw))
 
   -- an installation changes no size
-  install_size : (h : Hook) (drawn : ℕ) (p : Processor) (new : Attached) (r : Result Reply Refusal) (q : Processor)
+  install_size : (h : Hook) (drawn : ℕ) (p : Processor) (new : InstalledFacts) (r : Result Reply Refusal) (q : Processor)
       → Installs h drawn p new r q → size_of q ≡ size_of p
   install_size h drawn p new (Ok r) q i = ap size_of i.2
   install_size h drawn p new (Err e) q i = ap size_of i.1

@@ -9,7 +9,7 @@ use Rattle.bq_disc.specs.Movable.{is_movable_to}
 use Rattle.bq_disc.specs.Discipline.{Discipline, left_at}
 use Rattle.bq_disc.specs.OneProcessor.{Running, present_at}
 use Rattle.bq_bpf.specs.declared.board.CounterCall.{CounterCall}
-use Rattle.bq_installed.specs.Attachments.{Attachments}
+use Rattle.bq_installed.specs.Installed.{HooksFacts}
 use Rattle.bq_hooks.specs.declared.settled.By.{By}
 use Rattle.bq_hooks.specs.Contexts.{or_nobody}
 use Rattle.bq_hooks.specs.Permitted.{may_pull, task_numbered}
@@ -34,7 +34,7 @@ use Rattle.bq_shared.proofs.ShapeLemmas.{MayCommitHere, moves_two_cpus}
 use Rattle.bq_shared.proofs.CallStepLemmas.{ones, length_is, time_size, kept_same, kept_less, kept_more}
 
 -- the puller has one more, if a task is taken
-puller_size : (d : Discipline) (now : ℕ) (p o : Processor) (task : Option ℕ) (hooks : Attachments)
+puller_size : (d : Discipline) (now : ℕ) (p o : Processor) (task : Option ℕ) (hooks : HooksFacts)
     → let c = after_time d now p in
     let taken = taken_from (mark_updated d o).running task in
     size_of (record c { running = started_if_idle d (with_pulled d c.running taken) c.running.current; hooks = hooks })
@@ -137,7 +137,7 @@ module _ (d : Discipline) (n : ℕ) where
       ∙ chosen_there d c b now id p o u.settled once u.settles e in
       rw u.replies (
       kept_by_task w c b p q o r k task _ u.settled.by u.settled.steps (length (option_to_list taken)) s kw here at there at' apart
-      (ap size_of u.here ∙ puller_size d now p o task (record (after_time d now p).hooks { pull = u.settled.attached }))
+      (ap size_of u.here ∙ puller_size d now p o task (record (after_time d now p).hooks { pull = u.settled.installed }))
       (ap (λ (y : Processor). size_of y + length (option_to_list taken)) u.there ∙ source_size d o task)
       some
       (λ e. none_taken source.running task e)

@@ -5,7 +5,7 @@ use Rattle.std.proofs.lemmas.Option.{same_Some}
 use Rattle.bq_disc.specs.Tasks.{Task}
 use Rattle.bq_disc.specs.Discipline.{Discipline}
 use Rattle.bq_hooks.specs.declared.hook.Hook.{Hook}
-use Rattle.bq_installed.specs.Attachments.{Attached, at_hook}
+use Rattle.bq_installed.specs.Installed.{InstalledFacts, at_hook}
 use Rattle.bq_parts.specs.declared.carried.Carried.{Carried}
 use Rattle.bq_parts.specs.declared.reply.Reply.{Reply}
 use Rattle.bq_parts.specs.declared.refusal.Refusal.{Refusal}
@@ -66,7 +66,7 @@ begins_named id loads p l (Ok r) q m b = tt
 begins_named id loads p l (Err e) q m b = begin_named (slice_index_or l id Absent) p.hand e b.0
 
 -- no policy is refused to be installed for lack of memory
-pub installs_named : (h : Hook) (drawn : ℕ) (p : Processor) (new : Attached) (r : Result Reply Refusal) (q : Processor)
+pub installs_named : (h : Hook) (drawn : ℕ) (p : Processor) (new : InstalledFacts) (r : Result Reply Refusal) (q : Processor)
     → Installs h drawn p new r q → HadMemory r
 installs_named h drawn p new (Ok r) q i = tt
 installs_named h drawn p new (Err e) q i =

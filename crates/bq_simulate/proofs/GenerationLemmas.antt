@@ -6,7 +6,7 @@ use Rattle.bq_disc.specs.Discipline.{Discipline}
 use Rattle.bq_hooks.specs.declared.hook.Hook.{Hook}
 use Rattle.bq_hooks.specs.declared.hook.Hook.TheVariants.{Place, Preempt, Pull}
 use Rattle.bq_installed.specs.Answers.{fresh_maps}
-use Rattle.bq_installed.specs.Attachments.{Attached, Attachments, at_hook, with_attached}
+use Rattle.bq_installed.specs.Installed.{InstalledFacts, HooksFacts, at_hook, with_installed}
 use Rattle.bq_parts.specs.declared.event.Event.TheVariants.{Draw, Install}
 use Rattle.bq_parts.specs.declared.reply.Reply.{Reply}
 use Rattle.bq_parts.specs.declared.reply.Reply.TheVariants.{Drawn}
@@ -61,18 +61,18 @@ drawn d w v calls generation early h step =
     )
 
 -- the generations at the hooks of a processor after one hook was changed
-attached_low : (most : ℕ) (hook other : Hook) (ps : Attachments) (new : Attached)
+installed_low : (most : ℕ) (hook other : Hook) (ps : HooksFacts) (new : InstalledFacts)
     → new.generation ≤ most → ((x : Hook) → (at_hook x ps).generation ≤ most)
-    → (at_hook other (with_attached hook ps new)).generation ≤ most
-attached_low most Place Place ps new low h = low
-attached_low most Place Preempt ps new low h = h Preempt
-attached_low most Place Pull ps new low h = h Pull
-attached_low most Preempt Place ps new low h = h Place
-attached_low most Preempt Preempt ps new low h = low
-attached_low most Preempt Pull ps new low h = h Pull
-attached_low most Pull Place ps new low h = h Place
-attached_low most Pull Preempt ps new low h = h Preempt
-attached_low most Pull Pull ps new low h = low
+    → (at_hook other (with_installed hook ps new)).generation ≤ most
+installed_low most Place Place ps new low h = low
+installed_low most Place Preempt ps new low h = h Preempt
+installed_low most Place Pull ps new low h = h Pull
+installed_low most Preempt Place ps new low h = h Place
+installed_low most Preempt Preempt ps new low h = low
+installed_low most Preempt Pull ps new low h = h Pull
+installed_low most Pull Place ps new low h = h Place
+installed_low most Pull Preempt ps new low h = h Preempt
+installed_low most Pull Pull ps new low h = low
 
 -- a generation that is installed at a processor stays newer than those at the processors after it, and none is drawn
 installed : (d : Discipline) (w v : World) (calls : List CounterCall) (r : Reply) (processor generation : ℕ)
@@ -84,11 +84,11 @@ installed d w v calls r processor generation hook policy newer h step =
     let k = step.1 in
     let q : Processor = k.0 in
     let p : Processor = processor_at w processor in
-    let new : Attached = record { policy = policy; generation = generation; maps = fresh_maps policy } in
+    let new : InstalledFacts = record { policy = policy; generation = generation; maps = fresh_maps policy } in
     let low = (not_refused_is_there (count_in w) processor _ (accepted w (Install processor hook generation policy) step.0).0).0 in
     let here : (other : Hook) → (at_hook other q.hooks).generation ≤ w.drawn = λ other.
     subst (λ (x : Processor). (at_hook other x.hooks).generation ≤ w.drawn) (sym k.1.2)
-    (attached_low w.drawn hook other p.hooks new newer.drawn (h processor)) in
+    (installed_low w.drawn hook other p.hooks new newer.drawn (h processor)) in
     let were : WereDrawn (with_processor w processor q) =
     at_set_else (λ n (x : Processor). (other : Hook) → (at_hook other x.hooks).generation ≤ w.drawn) w.processors
     processor q new_processor low here (λ n apart. h n) in

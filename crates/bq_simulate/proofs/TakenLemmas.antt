@@ -14,7 +14,7 @@ use Rattle.bq_hooks.specs.declared.hook.Hook.{Hook}
 use Rattle.bq_hooks.specs.declared.hook.Hook.TheVariants as hooks
 use Rattle.bq_hooks.specs.Contexts.{or_nobody}
 use Rattle.bq_hooks.specs.Permitted.{may_pull, task_numbered}
-use Rattle.bq_installed.specs.Attachments.{at_hook}
+use Rattle.bq_installed.specs.Installed.{at_hook}
 use Rattle.bq_verify.specs.Accepted.{Accepted}
 use Rattle.bq_parts.specs.declared.event.Event.TheVariants.{Block, Draw, Install, Pull, Tick}
 use Rattle.bq_parts.specs.declared.lobby_entry.LobbyEntry.{LobbyEntry}

@@ -10,7 +10,7 @@ use Rattle.bq_parts.specs.Choices.{by_programs}
 use Rattle.bq_parts.specs.Refusals.{refusal}
 use Rattle.bq_parts.specs.Steps.{WorldStep}
 use Rattle.bq_parts.specs.World.{World, count_in, processor_at}
-use Rattle.bq_installed.specs.Attachments.{at_hook}
+use Rattle.bq_installed.specs.Installed.{at_hook}
 use Rattle.bq_workload.specs.declared.due.Due.{Due}
 use Rattle.bq_workload.specs.declared.progress.TaskProgress.{TaskProgress}
 use Rattle.bq_workload.specs.declared.periods.Periods.{Periods}

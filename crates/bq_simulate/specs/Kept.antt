@@ -2,7 +2,7 @@
 use Rattle.std.specs.Prelude.{◌≡◌, ℕ, ◌<◌, ◌≤◌, List, Some, length, slice_get}
 use Rattle.bq_disc.specs.declared.limits.TheConstants.{PROCESSORS}
 use Rattle.bq_hooks.specs.declared.hook.Hook.{Hook}
-use Rattle.bq_installed.specs.Attachments.{at_hook}
+use Rattle.bq_installed.specs.Installed.{at_hook}
 use Rattle.bq_parts.specs.World.{World, count_in, processor_at}
 use Rattle.bq_workload.specs.declared.action.Action.TheVariants.{Wake}
 use Rattle.bq_workload.specs.declared.progress.TaskProgress.{TaskProgress}

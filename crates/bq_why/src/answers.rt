@@ -1,6 +1,6 @@
 //! What policies answered.
 ghost use Rattle.std.specs.Prelude.{◌≡◌, IfSome, Some};
-ghost use Rattle.bq_installed.specs.Attachments.{at_hook};
+ghost use Rattle.bq_installed.specs.Installed.{at_hook};
 ghost use Rattle.bq_installed.specs.Standing.{HasAnswered};
 ghost use Rattle.bq_verify.specs.Accepted.{Accepted};
 

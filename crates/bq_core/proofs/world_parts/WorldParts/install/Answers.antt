@@ -5,7 +5,7 @@ use Rattle.bq_hooks.specs.declared.hook.Hook.{Hook}
 use Rattle.bq_disc.specs.Discipline.{Discipline}
 use Rattle.bq_verify.specs.Accepted.{Accepted}
 use Rattle.bq_installed.specs.Answers.{fresh_maps}
-use Rattle.bq_installed.specs.Attachments.{Attached, IsFor}
+use Rattle.bq_installed.specs.Installed.{InstalledFacts, IsFor}
 use Rattle.bq_parts.specs.declared.event.Event.TheVariants.{Install}
 use Rattle.bq_parts.specs.declared.reply.Reply.{Reply}
 use Rattle.bq_parts.specs.declared.refusal.Refusal.{Refusal}
@@ -21,7 +21,7 @@ use Rattle.bq_core.proofs.ShareStepLemmas.{installs_step}
 use Rattle.bq_core.proofs.world_parts.WorldParts.install.Goals as goal
 
 -- a processor's share of an Install is the world's step, where the parts are known by equations
-installs_at : (d : Discipline) (w w' : World) (processor n drawn : ℕ) (h : Hook) (o : Option Accepted) (new : Attached)
+installs_at : (d : Discipline) (w w' : World) (processor n drawn : ℕ) (h : Hook) (o : Option Accepted) (new : InstalledFacts)
     (r : Result Reply Refusal) (p q : Processor)
     → argument_refusal (count_in w) (Install processor h n o) ≡ None
     → new ≡ record { policy = o; generation = n; maps = fresh_maps o } → drawn ≡ w.drawn → p ≡ processor_at w processor
@@ -40,7 +40,7 @@ index_mut-requires g c =
 
 pub replace-requires : goal.replace-requires
 replace-requires g c =
-    subst (λ (o : Option Accepted). IsFor c.args.hook o) (sym (ap (λ (a : Attached). a.policy) c.in-Ok.ensures.installed))
+    subst (λ (o : Option Accepted). IsFor c.args.hook o) (sym (ap (λ (a : InstalledFacts). a.policy) c.in-Ok.ensures.installed))
     (install_suits (count_in c.args.self.now) c.args.processor c.args.generation c.args.hook c.args.policy c.requires.fits)
 
 pub invariant_of-self : goal.invariant_of-self

@@ -1,7 +1,7 @@
 use Rattle.std.proofs.Common.{◌≡◌, ◌<◌, ℕ, List, None, refl, ap, subst, ◌∙◌, arith}
 use Rattle.std.proofs.lemmas.Bool.{lt-leb}
 use Rattle.bq_installed.specs.Answers.{fresh_maps}
-use Rattle.bq_installed.specs.Attachments.{Attached}
+use Rattle.bq_installed.specs.Installed.{InstalledFacts}
 use Rattle.bq_parts.specs.declared.event.Event.TheVariants.{Install}
 use Rattle.bq_parts.specs.Refusals.{argument_refusal}
 use Rattle.bq_parts.specs.Shares.{Installs}
@@ -43,7 +43,7 @@ commit_one-requires-clause-may g c =
     c.set_generation.ensures
     ∙ ap (λ (m : List (List ℕ)). record { policy = i.policy; generation = generation; maps = m }) c.args.spare.fresh in
     let had : Installs h k.drawn own.state s r q = rw c.kept.ensures at c.replace-reply.ensures.share in
-    let share = subst (λ (x : Attached). Installs h k.drawn own.state x r q) whole had in (
+    let share = subst (λ (x : InstalledFacts). Installs h k.drawn own.state x r q) whole had in (
       cpu_part own.number own.state,
       c.cpu.invariant.0,
       rw (

@@ -22,7 +22,7 @@ returns-clause-share g c =
       by = placed.result.by;
       steps = placed.result.steps;
       calls = placed.new.scratch;
-      attached = placed.new.self.hooks.place;
+      installed = placed.new.self.hooks.place;
     } in
     let charged : c.charge.new.self ≡ p =
     c.charge.ensures ∙ ap (λ (x : Processor). record x { running = charge d x.running now }) c.release.ensures.left in
@@ -40,7 +40,7 @@ returns-clause-share g c =
       by = refl;
       steps = refl;
       asks = refl;
-      here = placed.ensures.rest ∙ ap (λ (x : Processor). record x { hooks = record x.hooks { place = settled.attached } }) charged;
+      here = placed.ensures.rest ∙ ap (λ (x : Processor). record x { hooks = record x.hooks { place = settled.installed } }) charged;
     }
 
 pub returns-clause-below : goal.returns-clause-below
@@ -56,7 +56,7 @@ returns-clause-below g c =
       by = placed.result.by;
       steps = placed.result.steps;
       calls = placed.new.scratch;
-      attached = placed.new.self.hooks.place;
+      installed = placed.new.self.hooks.place;
     } in
     let charged : c.charge.new.self ≡ p =
     c.charge.ensures ∙ ap (λ (x : Processor). record x { running = charge d x.running now }) c.release.ensures.left in
