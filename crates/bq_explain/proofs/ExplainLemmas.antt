@@ -76,7 +76,7 @@ pub refusal_of_graph : {E : Type 0} (p : PolicySource) (slot : ℕ) (named : Gra
     → IsPlaceOfSlot (spread p.insns.items) slot place → IfOk r (λ refusal. refusal.place ≡ place)
     → IfOk r (λ refusal. refusal.cause ≡ cause.Graph named)
     → IfOk r (λ refusal. (p : PolicySource) (slot : ℕ) → IsFinding p slot place.insn (cause.Graph named) refusal.finding)
-    → IfOk r (λ refusal. refusal.trail.made.items ≡ [])
+    → IfOk r (λ refusal. refusal.trail.makers.items ≡ [])
     → IfOk r (IsRefusalOf p slot (cause.Graph named))
 refusal_of_graph p slot named place (Err e) at same is finds none = tt
 refusal_of_graph p slot named place (Ok refusal) at same is finds none = record {
@@ -85,7 +85,7 @@ refusal_of_graph p slot named place (Ok refusal) at same is finds none = record 
   finds = subst (λ (q : ProgramPoint). IsFinding p slot q.insn (cause.Graph named) refusal.finding) (sym same) (finds p slot);
   asked = [];
   are_asked = λ r of. absurd (false≢true of);
-  made = nothing_made (spread p.insns.items) slot refusal.trail.made.items none;
+  made = nothing_made (spread p.insns.items) slot refusal.trail.makers.items none;
 }
 
 -- a refusal for what is not shown of the states
@@ -93,7 +93,7 @@ pub refusal_of_state : {E : Type 0} (p : PolicySource) (slot : ℕ) (named : Cau
     → slots ≡ spread p.insns.items → (place : ProgramPoint) (r : Result ExplainedRefusal E) → IsPlaceOfSlot (spread p.insns.items) slot place
     → IfOk r (λ refusal. refusal.place ≡ place) → IfOk r (λ refusal. refusal.cause ≡ named)
     → IfOk r (λ refusal. IsFinding p place.slot place.insn named refusal.finding)
-    → IfOk r (λ refusal. (asked : List Bool) × AreAsked refusal.finding asked × AreMade slots place.slot asked refusal.trail.made.items)
+    → IfOk r (λ refusal. (asked : List Bool) × AreAsked refusal.finding asked × AreMade slots place.slot asked refusal.trail.makers.items)
     → IfOk r (IsRefusalOf p slot named)
 refusal_of_state p slot named slots laid place (Err e) at same is finds made = tt
 refusal_of_state p slot named slots laid place (Ok refusal) at same is finds made = record {
@@ -105,6 +105,6 @@ refusal_of_state p slot named slots laid place (Ok refusal) at same is finds mad
   asked = made.0;
   are_asked = made.1;
   made =
-      subst (λ (n : ℕ). AreMade (spread p.insns.items) n made.0 refusal.trail.made.items) at.slot_is
-      (subst (λ (s : List (Option Insn)). AreMade s place.slot made.0 refusal.trail.made.items) laid made.2);
+      subst (λ (n : ℕ). AreMade (spread p.insns.items) n made.0 refusal.trail.makers.items) at.slot_is
+      (subst (λ (s : List (Option Insn)). AreMade s place.slot made.0 refusal.trail.makers.items) laid made.2);
 }

@@ -113,7 +113,7 @@ pub record IsRefusalOf (p : PolicySource) (slot : ℕ) (named : Cause) (refusal 
   pub finds : IsFinding p slot refusal.place.insn named refusal.finding
   pub asked : List Bool
   pub are_asked : AreAsked refusal.finding asked
-  pub made : AreMade (spread p.insns.items) slot asked refusal.trail.made.items
+  pub made : AreMade (spread p.insns.items) slot asked refusal.trail.makers.items
 
 -- what explains a verdict
 abbrev pub IsDetail : PolicySource → Verdict → Detail → Type 0

@@ -78,7 +78,7 @@ join_text shapes join =
 -- a line for each instruction that made a register, in order, for each register that is unset on some way, and for each place where ways meet
 abbrev pub trail_text : List MapShape → Trail → List ℕ
 trail_text shapes trail =
-    flat_map (made_text shapes) trail.made.items ++ (unset_below 11 trail.unset ++ flat_map (join_text shapes) trail.joins.items)
+    flat_map (made_text shapes) trail.makers.items ++ (unset_below 11 trail.unset ++ flat_map (join_text shapes) trail.joins.items)
 
 -- the text says where the registers come from, and then on one line what helps
 abbrev pub DescribesTrail : List MapShape → Trail → List ℕ → Type 0

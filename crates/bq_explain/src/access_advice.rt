@@ -63,8 +63,8 @@ fn number_advice(register: u8, pointer: AbstractValue, trail: &Trail) -> Advice
     if pointer.offset.hi > 0 {
         return Advice::UsePointer;
     }
-    for made in trail.made.as_slice() {
-        if made.register == register && is_answer(made.known) {
+    for maker in trail.makers.as_slice() {
+        if maker.register == register && is_answer(maker.known) {
             return Advice::OtherSide(register);
         }
     }

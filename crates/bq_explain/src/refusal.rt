@@ -79,7 +79,7 @@ fn graph_refusal(
     ensures place { IfOk result (λ refusal. refusal.place ≡ place) }
     ensures cause { IfOk result (λ refusal. refusal.cause ≡ Cause.Graph named) }
     ensures finds { IfOk result (λ refusal. (p : Named) (slot : ℕ) → IsFinding p slot place.insn (Cause.Graph named) refusal.finding) }
-    ensures made { IfOk result (λ refusal. refusal.trail.made.items ≡ []) }
+    ensures made { IfOk result (λ refusal. refusal.trail.makers.items ≡ []) }
 {
     let fault = graph_fault(slots.len(), place.slot, place.insn, named);
     let label = label_of(alloc, file, place, named)?;
@@ -122,7 +122,7 @@ fn state_refusal(
     ensures place { IfOk result (λ refusal. refusal.place ≡ place) }
     ensures cause { IfOk result (λ refusal. refusal.cause ≡ cause) }
     ensures finds { IfOk result (λ refusal. IsFinding policy.now place.slot place.insn cause refusal.finding) }
-    ensures made { IfOk result (λ refusal. (asked : List Bool) × AreAsked refusal.finding asked × AreMade slots.now place.slot asked refusal.trail.made.items) }
+    ensures made { IfOk result (λ refusal. (asked : List Bool) × AreAsked refusal.finding asked × AreMade slots.now place.slot asked refusal.trail.makers.items) }
 {
     let program = policy.program(alloc)?;
     let states = known_states(alloc, &program, place.slot)?;

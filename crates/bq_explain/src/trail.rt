@@ -26,7 +26,7 @@ const CALLS: usize = 4;
 #[derive(Drop)]
 pub struct Trail {
     /// The instructions that made the asked registers, the nearest first, and then those that made what these read; six at most.
-    pub made: Vec<RegisterMaker>,
+    pub makers: Vec<RegisterMaker>,
     /// The asked registers that no instruction sets on some way from the start.
     pub unset: Registers,
     /// The asked registers that a call leaves unset on some way.
@@ -71,10 +71,10 @@ fn leaves_unset(insn: Insn, register: u8) -> bool
 
 /// Makes a trail that names nothing.
 pub(crate) fn no_trail(alloc: Global) -> Trail
-    ensures { result.made.items ≡ [] }
+    ensures { result.makers.items ≡ [] }
 {
     Trail {
-        made: Vec::new(alloc),
+        makers: Vec::new(alloc),
         unset: [false; REGISTERS],
         clobbered: ClobberedRegisters {
             all: [false; REGISTERS],
@@ -95,11 +95,11 @@ pub(crate) fn trail_of(
 ) -> Result<Trail, AllocError>
     requires walkable { CanBeWalked slots.now }
     requires inside { slot < length slots.now }
-    ensures { IfOk result (λ trail. AreMade slots.now slot asked.now trail.made.items) }
+    ensures { IfOk result (λ trail. AreMade slots.now slot asked.now trail.makers.items) }
 {
     let ways = ways_before(alloc, slots, states, slot)?;
-    let makers = trail(alloc, slots, &ways, slot, asked)?;
-    let made = made_by(alloc, policy, slots, states, makers.as_slice())?;
+    let found = trail(alloc, slots, &ways, slot, asked)?;
+    let makers = made_by(alloc, policy, slots, states, found.as_slice())?;
     let unset = unset_from_start(alloc, slots, &ways, slot, asked)?;
     let clobbered = clobbered_by_calls(alloc, slots, states, &ways, slot, asked)?;
     let asked = AskedRegisters {
@@ -107,9 +107,17 @@ pub(crate) fn trail_of(
         registers: *asked,
         makers: 0,
     };
-    let joins = joins(alloc, policy, slots, states, &ways, asked, made.as_slice())?;
+    let joins = joins(
+        alloc,
+        policy,
+        slots,
+        states,
+        &ways,
+        asked,
+        makers.as_slice(),
+    )?;
     Ok(Trail {
-        made,
+        makers,
         unset,
         clobbered,
         joins,
@@ -257,16 +265,16 @@ fn joins(
     states: &KnownStates,
     ways: &Ways,
     asked: AskedRegisters,
-    made: &[RegisterMaker],
+    makers: &[RegisterMaker],
 ) -> Result<Vec<JoinPoint>, AllocError>
     requires walkable { CanBeWalked slots.now }
 {
     let mut joins = Vec::new(alloc);
     push_joins(alloc, policy, slots, states, ways, asked, &mut joins)?;
-    for one in made {
+    for maker in makers {
         let operands = AskedRegisters {
-            slot: one.place.slot,
-            registers: read_registers(one.place.insn),
+            slot: maker.place.slot,
+            registers: read_registers(maker.place.insn),
             makers: 2,
         };
         push_joins(alloc, policy, slots, states, ways, operands, &mut joins)?;

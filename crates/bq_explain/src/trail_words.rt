@@ -21,7 +21,7 @@ pub(crate) fn trail_text(
 ) -> Result<String, AllocError>
     ensures { IfOk result (λ text. string_bytes text ≡ trail_text shapes.now trail.now) }
 {
-    let made = made_lines(alloc, shapes, trail.made.as_slice())?;
+    let made = made_lines(alloc, shapes, trail.makers.as_slice())?;
     let unset = unset_lines(alloc, &trail.unset)?;
     let joins = join_lines(alloc, shapes, trail.joins.as_slice())?;
     format!(in alloc; "{made}{unset}{joins}")

@@ -119,7 +119,7 @@ pub(crate) fn fields_of_refusal(
     let shapes = policy.form.shapes.as_slice();
     let registers = registers_value(alloc, shapes, refusal.finding)?;
     put(&mut fields, alloc, "registers", registers)?;
-    let trail = trail_value(alloc, shapes, refusal.trail.made.as_slice())?;
+    let trail = trail_value(alloc, shapes, refusal.trail.makers.as_slice())?;
     put(&mut fields, alloc, "trail", trail)?;
     let advice = advice_text(alloc, policy, refusal.advice)?;
     put_text(&mut fields, alloc, "advice", advice.as_str())?;

@@ -18,5 +18,5 @@ on_trail slots slot asked makers made on of one there =
 
 pub returns : goal.returns
 returns c =
-    on_trail c.args.slots.now c.args.slot c.args.asked.now c.in_ok-makers.makers.items c.in_ok-made.made.items
-    c.in_ok-makers.ensures (rw (← c.as_slice.ensures.value) c.in_ok-made.ensures)
+    on_trail c.args.slots.now c.args.slot c.args.asked.now c.in_ok-found.found.items c.in_ok-makers.makers.items
+    c.in_ok-found.ensures (rw (← c.as_slice.ensures.value) c.in_ok-makers.ensures)
