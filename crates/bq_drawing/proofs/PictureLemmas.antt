@@ -280,10 +280,10 @@ waiting_none w s rows = refl
 
 -- one more task's
 pub waiting_held : (w : Window) (s : Figures) (id : ℕ) (wait : Option Slice) (old now new : Held) → HoldsWaiting w s id old now
-    → wait ≡ wait_at s id (task_in_figures s id).place → HoldsWait w wait now new → HoldsWaiting w s (id + 1) old new
+    → wait ≡ wait_at s id (task_in_figures s id).processor → HoldsWait w wait now new → HoldsWaiting w s (id + 1) old new
 unfolding HoldsWaiting
 waiting_held w s id wait old now new before is holds =
-    let here : HoldsWait w (wait_at s id (task_in_figures s id).place) now new = subst (λ own. HoldsWait w own now new) is holds in
+    let here : HoldsWait w (wait_at s id (task_in_figures s id).processor) now new = subst (λ own. HoldsWait w own now new) is holds in
     subst (λ n. HoldsWaiting w s n old new) (sym (add-one id)) (now, before, here)
 
 -- what is held of the waits of all tasks that still wait

@@ -202,4 +202,4 @@ wait_at s id (Some p) =
 unfoldable pub HoldsWaiting : Window → Figures → ℕ → Held → Held → Type 0
 HoldsWaiting w s zero old new = new ≡ old
 HoldsWaiting w s (suc id) old new =
-    (before : Held) × HoldsWaiting w s id old before × HoldsWait w (wait_at s id (task_in_figures s id).place) before new
+    (before : Held) × HoldsWaiting w s id old before × HoldsWait w (wait_at s id (task_in_figures s id).processor) before new

@@ -355,16 +355,16 @@ fn pulled_link(pull: Option<PulledTask>) -> Option<RowLink>
 
 /// The wait of a task that still goes on, if it waits.
 fn wait_of(schedule: &Schedule, id: u16) -> Option<Slice>
-    ensures { result ≡ wait_at schedule.now id (task_in_figures schedule.now id).place }
+    ensures { result ≡ wait_at schedule.now id (task_in_figures schedule.now id).processor }
 {
     let task = schedule.task(id);
-    let place = task.place?;
-    let figures = schedule.processor(place);
+    let processor = task.processor?;
+    let figures = schedule.processor(processor);
     if runs(figures.running, id) {
         return None;
     }
     Some(Slice {
-        processor: place,
+        processor,
         task: id,
         from: task.since,
         to: figures.last,

@@ -13,7 +13,7 @@ last_unless_running s id (Some p) = if is_this id (running_task (processor_in_fi
 
 -- the last reading of the clock of the processor where a task waits; none if it does not wait
 abbrev pub waits_until : Figures → ℕ → Option ℕ
-waits_until s id = last_unless_running s id (task_in_figures s id).place
+waits_until s id = last_unless_running s id (task_in_figures s id).processor
 
 -- how long the task's current wait has lasted; 0 if the clocks disagree, or if it does not wait
 abbrev pub open_wait : Figures → ℕ → ℕ

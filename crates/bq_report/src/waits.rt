@@ -45,8 +45,8 @@ fn open_wait(schedule: &Schedule, task: u16) -> u64
 fn waits_until(schedule: &Schedule, task: u16) -> Option<u64>
     ensures { result ≡ waits_until schedule.now task }
 {
-    let place = schedule.task(task).place?;
-    let processor = schedule.processor(place);
+    let number = schedule.task(task).processor?;
+    let processor = schedule.processor(number);
     if runs(&processor, task) {
         None
     } else {

@@ -23,19 +23,19 @@ pub record Stays (s s' : Figures) : Type 0 where
 -- where a task comes to a processor, the weight counted at each is again the sum of the weights there
 weights-joined : (s s' : Figures) (id processor j w : ℕ) (t' : TaskFigures) (b : Bool)
     → PurseLemmas.IsSound s → ((b ≡ true) × (processor ≡ j)) ⊎ ((b ≡ false) × (processor ≢ j))
-    → eqb processor j ≡ b → (task_in_figures s id).place ≡ None → t'.place ≡ Some processor
+    → eqb processor j ≡ b → (task_in_figures s id).processor ≡ None → t'.processor ≡ Some processor
     → t'.weight ≡ (task_in_figures s id).weight → (processor_in_figures s j).weight ≡ weights_at s j
     → weights_at s' j + weight_there j (task_in_figures s id) ≡ weights_at s j + weight_there j t'
     → w ≡ cond b (saturating_sum (processor_in_figures s processor).weight (task_in_figures s id).weight) (processor_in_figures s j).weight
     → w ≡ weights_at s' j
-weights-joined s s' id processor j w t' true h (inl e) is at place weight old sums new =
+weights-joined s s' id processor j w t' true h (inl e) is at now_at weight old sums new =
     let same : (processor_in_figures s processor).weight ≡ (processor_in_figures s j).weight = ap (λ k. (processor_in_figures s k).weight) e.1 in
-    let here : weight_there j t' ≡ t'.weight = weight-here j t' (place ∙ ap (λ (k : ℕ). Some k) e.1) in
+    let here : weight_there j t' ≡ t'.weight = weight-here j t' (now_at ∙ ap (λ (k : ℕ). Some k) e.1) in
     omega (arith, same, here, weight, old, sums, new, weight-nowhere j (task_in_figures s id) at, weights-few s j h, h.table id)
-weights-joined s s' id processor j w t' false h (inl e) is at place weight old sums new = absurd (cc)
-weights-joined s s' id processor j w t' true h (inr e) is at place weight old sums new = absurd (cc)
-weights-joined s s' id processor j w t' false h (inr e) is at place weight old sums new =
-    let here : weight_there j t' ≡ 0 = weight-elsewhere j processor t' false place is in
+weights-joined s s' id processor j w t' false h (inl e) is at now_at weight old sums new = absurd (cc)
+weights-joined s s' id processor j w t' true h (inr e) is at now_at weight old sums new = absurd (cc)
+weights-joined s s' id processor j w t' false h (inr e) is at now_at weight old sums new =
+    let here : weight_there j t' ≡ 0 = weight-elsewhere j processor t' false now_at is in
     omega (arith, here, old, sums, new, weight-nowhere j (task_in_figures s id) at)
 
 -- a purse that has just come to a processor was given nothing there yet, so it is worth what it had:
@@ -51,11 +51,11 @@ worth-here f u processor o e j =
 
 -- a task with an id of the table comes
 joined-inside : (s : Figures) (id processor : ℕ) (p : ProcessorFigures) (t' : TaskFigures)
-    → PurseLemmas.IsSound s → id < length s.tasks → (task_in_figures s id).place ≡ None → p.shared ≡ PurseLemmas.shared_at s processor
-    → p.weight ≡ saturating_sum (processor_in_figures s processor).weight (task_in_figures s id).weight → t'.place ≡ Some processor
+    → PurseLemmas.IsSound s → id < length s.tasks → (task_in_figures s id).processor ≡ None → p.shared ≡ PurseLemmas.shared_at s processor
+    → p.weight ≡ saturating_sum (processor_in_figures s processor).weight (task_in_figures s id).weight → t'.processor ≡ Some processor
     → t'.weight ≡ (task_in_figures s id).weight → t'.joined ≡ PurseLemmas.shared_at s processor → t'.accrued ≡ (task_in_figures s id).accrued
     → Stays s (figures_with_task (figures_with_processor s processor p) id t')
-joined-inside s id processor p t' h inside at shared weight place same joined accrued =
+joined-inside s id processor p t' h inside at shared weight now_at same joined accrued =
     let s1 = figures_with_processor s processor p in
     let s2 = figures_with_task s1 id t' in
     let u = PurseLemmas.purse t' in
@@ -69,18 +69,18 @@ joined-inside s id processor p t' h inside at shared weight place same joined ac
         weights = λ j there.
             let there' : j < length s.processors = omega (arith, there, length-set s.processors processor p) in
             weights-joined s s2 id processor j (processor_in_figures s2 j).weight t' (eqb processor j) h (eqb_tells processor j) refl
-            at place same (h.weights j there') (weights-set s1 id j t' inside)
+            at now_at same (h.weights j there') (weights-set s1 id j t' inside)
             (set-there s processor j p (eqb processor j) there' (eqb_tells processor j)
             ∙ ap (λ w. cond (eqb processor j) w (processor_in_figures s j).weight) weight);
         joined = λ j.
             joined-set s s2 j u (eqb id j) gives (is j)
-            (joined-here (PurseLemmas.shared_at s) u processor t'.place place joined) (h.joined j);
+            (joined-here (PurseLemmas.shared_at s) u processor t'.processor now_at joined) (h.joined j);
         table = λ j. omega (arith, h.table j, task_kept (λ (v : TaskFigures). v.weight) s1 id j t' same);
         ids = length-set s.tasks id t' ∙ h.ids;
       };
       raws = λ j.
           raw-set s s2 id j u gives (is j)
-          (worth-here (PurseLemmas.shared_at s) u processor t'.place place joined ∙ accrued ∙ sym had);
+          (worth-here (PurseLemmas.shared_at s) u processor t'.processor now_at joined ∙ accrued ∙ sym had);
     }
 
 -- what counts nothing more is as it was
@@ -118,7 +118,7 @@ joined-outside s id processor p t' h past shared weight =
             ∙ h.weights j there' ∙ ap (λ l. sum_by (weight_there j) l) (sym tasks);
         joined = λ j.
             PurseLemmas.joined-more (PurseLemmas.shared_at s) (PurseLemmas.shared_at s2) (PurseLemmas.purse (task_in_figures s2 j))
-            (task_in_figures s2 j).place (λ k. omega (arith, gives k))
+            (task_in_figures s2 j).processor (λ k. omega (arith, gives k))
             (PurseLemmas.joined-same (PurseLemmas.shared_at s) (PurseLemmas.purse (task_in_figures s2 j))
             (PurseLemmas.purse (task_in_figures s j)) (ap PurseLemmas.purse (same j)) (h.joined j));
         table = λ j. omega (arith, h.table j, ap (λ (v : TaskFigures). v.weight) (same j));
@@ -128,7 +128,7 @@ joined-outside s id processor p t' h past shared weight =
     }
 
 -- a task that is nowhere joins a processor, whether or not its id is in the table
-joined-if : (s : Figures) (id processor now : ℕ) (b : Bool) → PurseLemmas.IsSound s → (task_in_figures s id).place ≡ None
+joined-if : (s : Figures) (id processor now : ℕ) (b : Bool) → PurseLemmas.IsSound s → (task_in_figures s id).processor ≡ None
     → ((b ≡ true) × (length s.tasks ≤ id)) ⊎ ((b ≡ false) × (id < length s.tasks))
     → Stays s (joins id processor now s)
 joined-if s id processor now b h at (inl past) =
@@ -138,7 +138,7 @@ joined-if s id processor now b h at (inr inside) =
     inside.1 at refl refl refl refl refl refl
 
 -- where a task that is nowhere joins a processor, all stays sound, and each task has what it had
-pub joined-stays : (s : Figures) (id processor now : ℕ) → PurseLemmas.IsSound s → (task_in_figures s id).place ≡ None
+pub joined-stays : (s : Figures) (id processor now : ℕ) → PurseLemmas.IsSound s → (task_in_figures s id).processor ≡ None
     → Stays s (joins id processor now s)
 joined-stays s id processor now h at = joined-if s id processor now (leb (length s.tasks) id) h at (leb_tells (length s.tasks) id)
 
@@ -149,9 +149,9 @@ table-cond false u v h l = l
 
 -- a task that is nowhere has another weight
 admitted-inside : (s : Figures) (id : ℕ) (t' : TaskFigures) → PurseLemmas.IsSound s → id < length s.tasks
-    → (task_in_figures s id).place ≡ None → t'.place ≡ None → t'.weight ≤ 88761 → t'.accrued ≡ (task_in_figures s id).accrued
+    → (task_in_figures s id).processor ≡ None → t'.processor ≡ None → t'.weight ≤ 88761 → t'.accrued ≡ (task_in_figures s id).accrued
     → Stays s (figures_with_task s id t')
-admitted-inside s id t' h inside at place weight accrued =
+admitted-inside s id t' h inside at now_at weight accrued =
     let s2 = figures_with_task s id t' in
     let u = PurseLemmas.purse t' in
     let is : (j : ℕ) → PurseLemmas.purse (task_in_figures s2 j) ≡ cond (eqb id j) u (PurseLemmas.purse (task_in_figures s j)) =
@@ -161,8 +161,8 @@ admitted-inside s id t' h inside at place weight accrued =
     record {
       sound = record {
         weights = λ j there.
-            omega (arith, h.weights j there, weights-set s id j t' inside, weight-nowhere j t' place, weight-nowhere j (task_in_figures s id) at);
-        joined = λ j. joined-set s s2 j u (eqb id j) (λ k. refl) (is j) (rw place tt) (h.joined j);
+            omega (arith, h.weights j there, weights-set s id j t' inside, weight-nowhere j t' now_at, weight-nowhere j (task_in_figures s id) at);
+        joined = λ j. joined-set s s2 j u (eqb id j) (λ k. refl) (is j) (rw now_at tt) (h.joined j);
         table = λ j. omega (
           arith,
           ap (λ (v : PurseLemmas.Purse). v.weight) (is j),
@@ -172,7 +172,7 @@ admitted-inside s id t' h inside at place weight accrued =
       };
       raws = λ j.
           raw-set s s2 id j u (λ k. refl) (is j)
-          (ap (λ o. PurseLemmas.worth_at (PurseLemmas.shared_at s) u o) place ∙ accrued ∙ sym had);
+          (ap (λ o. PurseLemmas.worth_at (PurseLemmas.shared_at s) u o) now_at ∙ accrued ∙ sym had);
     }
 
 -- one with an id beyond the table changes nothing
@@ -194,12 +194,12 @@ admitted-outside s id t' h past =
     }
 
 -- a task that is nowhere is admitted, whether or not its id is in the table
-admitted-if : (s : Figures) (id : ℕ) (nice : ℤ) (b : Bool) → PurseLemmas.IsSound s → (task_in_figures s id).place ≡ None
+admitted-if : (s : Figures) (id : ℕ) (nice : ℤ) (b : Bool) → PurseLemmas.IsSound s → (task_in_figures s id).processor ≡ None
     → ((b ≡ true) × (length s.tasks ≤ id)) ⊎ ((b ≡ false) × (id < length s.tasks))
     → Stays s (figures_admitted id nice s)
 admitted-if s id nice b h at (inl past) = admitted-outside s id _ h past.1
 admitted-if s id nice b h at (inr inside) = admitted-inside s id _ h inside.1 at at (weight_at-le nice) refl
 
 -- where a task that is nowhere is admitted, all stays sound, and each task has what it had
-pub admitted-stays : (s : Figures) (id : ℕ) (nice : ℤ) → PurseLemmas.IsSound s → (task_in_figures s id).place ≡ None → Stays s (figures_admitted id nice s)
+pub admitted-stays : (s : Figures) (id : ℕ) (nice : ℤ) → PurseLemmas.IsSound s → (task_in_figures s id).processor ≡ None → Stays s (figures_admitted id nice s)
 admitted-stays s id nice h at = admitted-if s id nice (leb (length s.tasks) id) h at (leb_tells (length s.tasks) id)

@@ -124,22 +124,22 @@ works-asked processor d s = works-with_processor s processor _ (works-processor_
 pub running-asked : (processor : ℕ) (d : Decision) (s : Figures) → KeepsRunning s (figures_asked processor d s)
 running-asked processor d s = running-with_processor s processor _ (running-processor_asked (processor_in_figures s processor) d d.hook)
 
--- a task that leaves a place, or none, keeps the works, and who runs:
-works-left_from : (id : ℕ) (s : Figures) (place : Option ℕ) → KeepsWorks s (left_from id s place)
+-- a task that leaves a processor, or none, keeps the works, and who runs:
+works-left_from : (id : ℕ) (s : Figures) (processor : Option ℕ) → KeepsWorks s (left_from id s processor)
 works-left_from id s None = works-id s
 works-left_from id s (Some processor) = works-then _ _ _ (works-with_processor s processor _ refl) (works-with_task _ id _ refl)
 
-running-left_from : (id : ℕ) (s : Figures) (place : Option ℕ) → KeepsRunning s (left_from id s place)
+running-left_from : (id : ℕ) (s : Figures) (processor : Option ℕ) → KeepsRunning s (left_from id s processor)
 running-left_from id s None = running-id s
 running-left_from id s (Some processor) = running-then _ _ _ (running-with_processor s processor _ refl) (running-with_task _ id _)
 
 -- a task that leaves its processor keeps the works
 pub works-leaves : (id : ℕ) (s : Figures) → KeepsWorks s (figures_left id s)
-works-leaves id s = works-left_from id s (task_in_figures s id).place
+works-leaves id s = works-left_from id s (task_in_figures s id).processor
 
 -- a task that leaves its processor keeps who runs
 pub running-leaves : (id : ℕ) (s : Figures) → KeepsRunning s (figures_left id s)
-running-leaves id s = running-left_from id s (task_in_figures s id).place
+running-leaves id s = running-left_from id s (task_in_figures s id).processor
 
 -- a task that joins a processor keeps the works
 pub works-joins : (id processor now : ℕ) (s : Figures) → KeepsWorks s (joins id processor now s)

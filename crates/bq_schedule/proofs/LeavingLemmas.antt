@@ -46,14 +46,14 @@ pub weight_at-le : (nice : ℤ) → weight_or_zero nice ≤ 88761
 weight_at-le nice = weight_if-le _ (weight_of nice) (weight_of-le nice)
 
 -- a task that is somewhere has an id of the table
-in_table_by : (s : Figures) (id processor : ℕ) (b : Bool) → (task_in_figures s id).place ≡ Some processor
+in_table_by : (s : Figures) (id processor : ℕ) (b : Bool) → (task_in_figures s id).processor ≡ Some processor
     → ((b ≡ true) × (length s.tasks ≤ id)) ⊎ ((b ≡ false) × (id < length s.tasks))
     → id < length s.tasks
 in_table_by s id processor b e (inl past) =
-    let u : (task_in_figures s id).place ≡ None = ap (λ (t : TaskFigures). t.place) (get_or_past s.tasks id unknown past.1) in cc
+    let u : (task_in_figures s id).processor ≡ None = ap (λ (t : TaskFigures). t.processor) (get_or_past s.tasks id unknown past.1) in cc
 in_table_by s id processor b e (inr inside) = inside.1
 
-in_table : (s : Figures) (id processor : ℕ) → (task_in_figures s id).place ≡ Some processor → id < length s.tasks
+in_table : (s : Figures) (id processor : ℕ) → (task_in_figures s id).processor ≡ Some processor → id < length s.tasks
 in_table s id processor e = in_table_by s id processor (leb (length s.tasks) id) e (leb_tells (length s.tasks) id)
 
 -- one that has none has nothing
@@ -77,17 +77,17 @@ pub weights-set : (s : Figures) (id processor : ℕ) (t : TaskFigures)
 weights-set s id processor t inside = sum_by-set (weight_there processor) s.tasks id t unknown inside
 
 -- a task has its weight where it is
-pub weight-here : (processor : ℕ) (t : TaskFigures) → t.place ≡ Some processor → weight_there processor t ≡ t.weight
+pub weight-here : (processor : ℕ) (t : TaskFigures) → t.processor ≡ Some processor → weight_there processor t ≡ t.weight
 weight-here processor t e =
     ap (λ o. cond (is_this processor o) t.weight 0) e ∙ ap (λ b. cond b t.weight 0) (eq-eqb processor processor refl)
 
 -- a task has no weight at a processor where it is not
 pub weight-elsewhere : (processor k : ℕ) (t : TaskFigures) (b : Bool)
-    → t.place ≡ Some k → eqb k processor ≡ false → weight_there processor t ≡ 0
+    → t.processor ≡ Some k → eqb k processor ≡ false → weight_there processor t ≡ 0
 weight-elsewhere processor k t b e ne = ap (λ o. cond (is_this processor o) t.weight 0) e ∙ ap (λ b. cond b t.weight 0) ne
 
 -- a task that is nowhere has no weight at any processor
-pub weight-nowhere : (processor : ℕ) (t : TaskFigures) → t.place ≡ None → weight_there processor t ≡ 0
+pub weight-nowhere : (processor : ℕ) (t : TaskFigures) → t.processor ≡ None → weight_there processor t ≡ 0
 weight-nowhere processor t e = ap (λ o. cond (is_this processor o) t.weight 0) e
 
 -- what a processor's figures are after one is set
@@ -112,12 +112,12 @@ shared-with_processor s i p j e = processor_kept (λ (q : ProcessorFigures). q.s
 pub record Leaves (id : ℕ) (s s' : Figures) : Type 0 where
   pub sound : PurseLemmas.IsSound s'
   pub raws : (j : ℕ) → PurseLemmas.uncapped s' j ≡ PurseLemmas.uncapped s j
-  pub nowhere : (task_in_figures s' id).place ≡ None
+  pub nowhere : (task_in_figures s' id).processor ≡ None
 
 -- where a task leaves a processor, the weight counted at each is again the sum of the weights there
 weights-left : (s s' : Figures) (id processor j : ℕ) (b : Bool) (w : ℕ)
     → ((b ≡ true) × (processor ≡ j)) ⊎ ((b ≡ false) × (processor ≢ j)) → eqb processor j ≡ b
-    → id < length s.tasks → (task_in_figures s id).place ≡ Some processor → (processor_in_figures s j).weight ≡ weights_at s j
+    → id < length s.tasks → (task_in_figures s id).processor ≡ Some processor → (processor_in_figures s j).weight ≡ weights_at s j
     → weights_at s' j + weight_there j (task_in_figures s id) ≡ weights_at s j
     → w ≡ cond b ((processor_in_figures s processor).weight - (task_in_figures s id).weight) (processor_in_figures s j).weight
     → w ≡ weights_at s' j
@@ -133,11 +133,11 @@ weights-left s s' id processor j false w (inr e) is inside at old sums new =
 
 -- the fair time of a purse where it is
 abbrev pub worth : (ℕ → ℕ) → PurseLemmas.Purse → ℕ
-worth f u = PurseLemmas.worth_at f u u.place
+worth f u = PurseLemmas.worth_at f u u.processor
 
 -- what had been given when a purse came is no more than what is given where it is
 abbrev pub HasJoined : (ℕ → ℕ) → PurseLemmas.Purse → Type 0
-HasJoined f u = PurseLemmas.JoinedBy f u u.place
+HasJoined f u = PurseLemmas.JoinedBy f u u.processor
 
 -- of two purses that came after what was given, either did
 cond-joined : (f : ℕ → ℕ) (b : Bool) (u v : PurseLemmas.Purse) → HasJoined f u → HasJoined f v → HasJoined f (cond b u v)
@@ -152,7 +152,7 @@ pub joined-set : (s s' : Figures) (j : ℕ) (u : PurseLemmas.Purse) (b : Bool)
     → HasJoined (PurseLemmas.shared_at s') (PurseLemmas.purse (task_in_figures s' j))
 joined-set s s' j u b gives is new old =
     PurseLemmas.joined-more (PurseLemmas.shared_at s) (PurseLemmas.shared_at s') (PurseLemmas.purse (task_in_figures s' j))
-    (task_in_figures s' j).place (λ k. omega (arith, gives k))
+    (task_in_figures s' j).processor (λ k. omega (arith, gives k))
     (PurseLemmas.joined-same (PurseLemmas.shared_at s)
     (PurseLemmas.purse (task_in_figures s' j)) (cond b u (PurseLemmas.purse (task_in_figures s j))) is
     (cond-joined (PurseLemmas.shared_at s) b u (PurseLemmas.purse (task_in_figures s j)) new old))
@@ -174,13 +174,13 @@ pub raw-set : (s s' : Figures) (id j : ℕ) (u : PurseLemmas.Purse)
     → PurseLemmas.uncapped s' j ≡ PurseLemmas.uncapped s j
 raw-set s s' id j u gives is same =
     PurseLemmas.worth-same (PurseLemmas.shared_at s') (PurseLemmas.shared_at s) (PurseLemmas.purse (task_in_figures s' j))
-    (task_in_figures s' j).place gives
+    (task_in_figures s' j).processor gives
     ∙ ap (λ v. worth (PurseLemmas.shared_at s) v) is ∙ worth-cond s id j u (eqb id j) (eqb_tells id j) same
 
 -- a task that leaves its processor, with its weight taken off there and what it has put by, keeps what it has
 left-one : (s : Figures) (id processor : ℕ) (p : ProcessorFigures) (t' : TaskFigures)
-    → PurseLemmas.IsSound s → (task_in_figures s id).place ≡ Some processor → p.shared ≡ PurseLemmas.shared_at s processor
-    → p.weight ≡ (processor_in_figures s processor).weight - (task_in_figures s id).weight → t'.place ≡ None
+    → PurseLemmas.IsSound s → (task_in_figures s id).processor ≡ Some processor → p.shared ≡ PurseLemmas.shared_at s processor
+    → p.weight ≡ (processor_in_figures s processor).weight - (task_in_figures s id).weight → t'.processor ≡ None
     → t'.weight ≡ (task_in_figures s id).weight → t'.accrued ≡ PurseLemmas.uncapped s id
     → Leaves id s (figures_with_task (figures_with_processor s processor p) id t')
 left-one s id processor p t' h at shared weight nowhere same accrued =
@@ -205,11 +205,11 @@ left-one s id processor p t' h at shared weight nowhere same accrued =
         ids = length-set s.tasks id t' ∙ h.ids;
       };
       raws = λ j. raw-set s s2 id j u gives (is j) (ap (λ o. PurseLemmas.worth_at (PurseLemmas.shared_at s) u o) nowhere ∙ accrued);
-      nowhere = ap (λ (v : TaskFigures). v.place) (get_or-set_same s.tasks id t' unknown inside) ∙ nowhere;
+      nowhere = ap (λ (v : TaskFigures). v.processor) (get_or-set_same s.tasks id t' unknown inside) ∙ nowhere;
     }
 
--- so does one that leaves its place, if it has one
-left-if : (s : Figures) (id : ℕ) (o : Option ℕ) → PurseLemmas.IsSound s → (task_in_figures s id).place ≡ o
+-- so does one that leaves its processor, if it has one
+left-if : (s : Figures) (id : ℕ) (o : Option ℕ) → PurseLemmas.IsSound s → (task_in_figures s id).processor ≡ o
     → PurseLemmas.uncapped s id ≤ 340282366920938463463374607431768211455
     → Leaves id s (left_from id s o)
 left-if s id None h at small = record { sound = h; raws = λ j. refl; nowhere = at }
@@ -218,14 +218,14 @@ left-if s id (Some processor) h at small =
     let is : PurseLemmas.uncapped s id ≡ t.accrued + t.weight * (PurseLemmas.shared_at s processor - t.joined) =
     ap (λ o. PurseLemmas.worth_at (PurseLemmas.shared_at s) (PurseLemmas.purse t) o) at in
     left-one s id processor (processor_left (processor_in_figures s processor) t.weight)
-    (record t { accrued = fair_at s t (Some processor); place = None; drains = None }) h at refl refl refl refl
+    (record t { accrued = fair_at s t (Some processor); processor = None; drains = None }) h at refl refl refl refl
     (omega (arith, is, small))
 
 -- a task that leaves is nowhere, all stays sound, and each has what it had, where what it has fits in 128 bits
 pub leaves-stays : (s : Figures) (id : ℕ) → PurseLemmas.IsSound s
     → PurseLemmas.uncapped s id ≤ 340282366920938463463374607431768211455
     → Leaves id s (figures_left id s)
-leaves-stays s id h small = left-if s id (task_in_figures s id).place h refl small
+leaves-stays s id h small = left-if s id (task_in_figures s id).processor h refl small
 
 -- all weights together are few
 pub weights-few : (s : Figures) (processor : ℕ) → PurseLemmas.IsSound s → weights_at s processor ≤ 90891264
@@ -235,5 +235,5 @@ weights-few s processor h =
       h.ids,
       sum_by-le (weight_there processor) 88761 s.tasks
           (All-from_get_or (λ (t : TaskFigures). weight_there processor t ≤ 88761) s.tasks unknown
-          (λ j inside. weight_if-le (is_this processor (task_in_figures s j).place) (task_in_figures s j).weight (h.table j))),
+          (λ j inside. weight_if-le (is_this processor (task_in_figures s j).processor) (task_in_figures s j).weight (h.table j))),
     )

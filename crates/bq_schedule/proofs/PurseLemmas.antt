@@ -30,14 +30,14 @@ sums_like f g d (x ∷ xs) (y ∷ ys) e h =
 
 -- what a task has, and what a processor gives
 pub record Purse : Type 0 where
-  pub place : Option ℕ
+  pub processor : Option ℕ
   pub weight : ℕ
   pub joined : ℕ
   pub accrued : ℕ
 
--- of a task's figures, its place, its weight and what it was given
+-- of a task's figures, its processor, its weight and what it was given
 abbrev pub purse : TaskFigures → Purse
-purse t = record { place = t.place; weight = t.weight; joined = t.joined; accrued = t.accrued }
+purse t = record { processor = t.processor; weight = t.weight; joined = t.joined; accrued = t.accrued }
 
 -- the weight at a processor, and what each unit of weight was given there
 pub record Pot : Type 0 where
@@ -140,7 +140,7 @@ shared_at s processor = (processor_in_figures s processor).shared
 
 -- what a task has, counted without end
 abbrev pub uncapped_of : Figures → TaskFigures → ℕ
-uncapped_of s t = worth_at (shared_at s) (purse t) t.place
+uncapped_of s t = worth_at (shared_at s) (purse t) t.processor
 
 -- what the task of an id has, counted without end
 abbrev pub uncapped : Figures → ℕ → ℕ
@@ -156,12 +156,12 @@ pub raw-kept : (s s' : Figures) (id : ℕ) → ((j : ℕ) → shared_at s' j ≡
     → purse (task_in_figures s' id) ≡ purse (task_in_figures s id)
     → uncapped s' id ≡ uncapped s id
 raw-kept s s' id h e =
-    worth-same (shared_at s') (shared_at s) (purse (task_in_figures s' id)) (task_in_figures s' id).place h
-    ∙ ap (λ (u : Purse). worth_at (shared_at s) u u.place) e
+    worth-same (shared_at s') (shared_at s) (purse (task_in_figures s' id)) (task_in_figures s' id).processor h
+    ∙ ap (λ (u : Purse). worth_at (shared_at s) u u.processor) e
 
 -- the weight of a purse at a processor, if it is there
 abbrev pub weight_of_purse : ℕ → Purse → ℕ
-weight_of_purse processor u = cond (is_this processor u.place) u.weight 0
+weight_of_purse processor u = cond (is_this processor u.processor) u.weight 0
 
 -- what keeps purses and pots keeps the weights at each processor together
 pub weights-kept : (s s' : Figures) (processor : ℕ) → KeepsPurses s s' → weights_at s' processor ≡ weights_at s processor
@@ -182,13 +182,13 @@ joined-more f g u (Some processor) h e = omega (arith, h processor, e)
 -- what each processor gives is by the weights there; each task came after what was given before; and weights are the table's
 pub record IsSound (s : Figures) : Type 0 where
   pub weights : (processor : ℕ) → processor < length s.processors → (processor_in_figures s processor).weight ≡ weights_at s processor
-  pub joined : (id : ℕ) → JoinedBy (shared_at s) (purse (task_in_figures s id)) (task_in_figures s id).place
+  pub joined : (id : ℕ) → JoinedBy (shared_at s) (purse (task_in_figures s id)) (task_in_figures s id).processor
   pub table : (id : ℕ) → (task_in_figures s id).weight ≤ 88761
   pub ids : length s.tasks ≡ 1024
 
 -- what had been given when a purse came is no more than what is given, if so of one that is the same
-pub joined-same : (f : ℕ → ℕ) (u v : Purse) → u ≡ v → JoinedBy f v v.place → JoinedBy f u u.place
-joined-same f u v e h = let P : Purse → Type 0 = λ w. JoinedBy f w w.place in subst P (sym e) h
+pub joined-same : (f : ℕ → ℕ) (u v : Purse) → u ≡ v → JoinedBy f v v.processor → JoinedBy f u u.processor
+joined-same f u v e h = let P : Purse → Type 0 = λ w. JoinedBy f w w.processor in subst P (sym e) h
 
 -- what keeps purses and pots keeps all sound
 pub sound-kept : (s s' : Figures) → KeepsPurses s s' → IsSound s → IsSound s'
@@ -198,7 +198,7 @@ sound-kept s s' k h = record {
       ∙ sym (weights-kept s s' processor k);
   joined = λ id.
       joined-same (shared_at s') (purse (task_in_figures s' id)) (purse (task_in_figures s id)) (k.purses id)
-      (joined-more (shared_at s) (shared_at s') (purse (task_in_figures s id)) (task_in_figures s id).place
+      (joined-more (shared_at s) (shared_at s') (purse (task_in_figures s id)) (task_in_figures s id).processor
       (λ j. omega (arith, ap (λ (q : Pot). q.shared) (k.pots j))) (h.joined id));
   table = λ id. omega (arith, h.table id, ap (λ (u : Purse). u.weight) (k.purses id));
   ids = k.tasks ∙ h.ids;

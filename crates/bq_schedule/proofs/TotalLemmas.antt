@@ -97,7 +97,7 @@ fair-raw_if s t (Some processor) h = omega (arith, h)
 
 -- the fair time of a task is what it has, if all busy times are short
 fair-raw : (s : Figures) (id : ℕ) → IsFull s → IsShort s → fair_of s id ≡ PurseLemmas.uncapped s id
-fair-raw s id f short = fair-raw_if s (task_in_figures s id) (task_in_figures s id).place (small s id f short)
+fair-raw s id f short = fair-raw_if s (task_in_figures s id) (task_in_figures s id).processor (small s id f short)
 
 -- a move leaves all full, and each task what it has
 pub record Goes (s s' : Figures) : Type 0 where
@@ -331,9 +331,9 @@ raw-read_at : (processor now id : ℕ) (s : Figures) → PurseLemmas.IsSound s �
     ≡ PurseLemmas.uncapped s id + weight_there processor (task_in_figures s id) * given processor now s
 raw-read_at processor now id s h inside fits =
     let r = figures_read processor now s in
-    ap (λ (u : PurseLemmas.Purse). PurseLemmas.worth_at (PurseLemmas.shared_at r) u u.place) (purse-read_at processor now s id)
+    ap (λ (u : PurseLemmas.Purse). PurseLemmas.worth_at (PurseLemmas.shared_at r) u u.processor) (purse-read_at processor now s id)
     ∙ worth-more (PurseLemmas.shared_at s) (PurseLemmas.shared_at r) processor (given processor now s)
-    (PurseLemmas.purse (task_in_figures s id)) (task_in_figures s id).place (λ j. shared-read_at processor now j s inside fits) (h.joined id)
+    (PurseLemmas.purse (task_in_figures s id)) (task_in_figures s id).processor (λ j. shared-read_at processor now j s inside fits) (h.joined id)
 
 -- two sums at once
 sums_both : (f g : TaskFigures → ℕ) (n : ℕ) (xs : List TaskFigures)
@@ -364,7 +364,7 @@ sound-read_at processor now s h inside fits =
           (tasks-read_at processor now s) (λ i. ap (PurseLemmas.weight_of_purse j) (purse-read_at processor now s i)));
       joined = λ id.
           PurseLemmas.joined-more (PurseLemmas.shared_at s) (PurseLemmas.shared_at r) (PurseLemmas.purse (task_in_figures r id))
-          (task_in_figures r id).place (λ j. omega (arith, shared-read_at processor now j s inside fits))
+          (task_in_figures r id).processor (λ j. omega (arith, shared-read_at processor now j s inside fits))
           (PurseLemmas.joined-same (PurseLemmas.shared_at s) (PurseLemmas.purse (task_in_figures r id))
           (PurseLemmas.purse (task_in_figures s id)) (purse-read_at processor now s id) (h.joined id));
       table = λ id. omega (arith, h.table id, ap (λ (u : PurseLemmas.Purse). u.weight) (purse-read_at processor now s id));
@@ -576,6 +576,6 @@ adds_up_fair_times count past few h =
     let s = figures count past in
     let f = figures_are_full count past few h in
     let fair : all_fair s ≡ all_raw s =
-    PurseLemmas.sums_like (λ (t : TaskFigures). fair_at s t t.place) (PurseLemmas.uncapped_of s) unknown s.tasks s.tasks refl
+    PurseLemmas.sums_like (λ (t : TaskFigures). fair_at s t t.processor) (PurseLemmas.uncapped_of s) unknown s.tasks s.tasks refl
     (λ j. fair-raw s j f (is_short count past few h)) in
     omega (arith, fair, f.total)

@@ -74,12 +74,12 @@ kept-ask processor now d s =
     (of_processor (figures_read processor now s) processor _)
 
 -- a task that leaves its processor keeps waits, also after a reading:
-kept-left_from : (id : ℕ) (s : Figures) (place : Option ℕ) → KeepsWaits s (left_from id s place)
+kept-left_from : (id : ℕ) (s : Figures) (processor : Option ℕ) → KeepsWaits s (left_from id s processor)
 kept-left_from id s None = same s
 kept-left_from id s (Some processor) = both s _ _ (of_processor s processor _) (with_one _ id _ refl refl)
 
 kept-leaves : (id : ℕ) (s : Figures) → KeepsWaits s (figures_left id s)
-kept-leaves id s = kept-left_from id s (task_in_figures s id).place
+kept-leaves id s = kept-left_from id s (task_in_figures s id).processor
 
 kept-block : (processor now id : ℕ) (s : Figures) → KeepsWaits s (figures_left id (figures_read processor now s))
 kept-block processor now id s =

@@ -60,12 +60,12 @@ kept-read_at processor now s =
     (of_processor s processor _) (kept-with_charged _ (slice_at processor (processor_in_figures s processor) now))
 
 -- a task that leaves its processor keeps wakes:
-kept-left_from : (id : ℕ) (s : Figures) (place : Option ℕ) → KeepsWakes s (left_from id s place)
+kept-left_from : (id : ℕ) (s : Figures) (processor : Option ℕ) → KeepsWakes s (left_from id s processor)
 kept-left_from id s None = same s
 kept-left_from id s (Some processor) = both s _ _ (of_processor s processor _) (with_one _ id _ refl)
 
 kept-leaves : (id : ℕ) (s : Figures) → KeepsWakes s (figures_left id s)
-kept-leaves id s = kept-left_from id s (task_in_figures s id).place
+kept-leaves id s = kept-left_from id s (task_in_figures s id).processor
 
 -- so does one that comes to a processor, is pulled, or ceases to run:
 kept-comes : (id processor now : ℕ) (s : Figures) → KeepsWakes s (comes id processor now s)

@@ -10,7 +10,7 @@ use Rattle.bq_schedule.specs.Slices.{is_this, Sight}
 
 -- the weight that a task has at a processor: its own if it is runnable there, otherwise 0
 abbrev pub weight_there : ℕ → TaskFigures → ℕ
-weight_there processor t = if is_this processor t.place then t.weight else 0
+weight_there processor t = if is_this processor t.processor then t.weight else 0
 
 -- the sum of the weights of all tasks that are runnable at a processor
 abbrev pub weights_at : Figures → ℕ → ℕ
@@ -24,7 +24,7 @@ share s (Some x) id =
 
 -- the sum of the fair times of all tasks
 abbrev pub all_fair : Figures → ℕ
-all_fair s = sum_by (λ (t : TaskFigures). fair_at s t t.place) s.tasks
+all_fair s = sum_by (λ (t : TaskFigures). fair_at s t t.processor) s.tasks
 
 -- the parts that all processors could not share out
 abbrev pub all_unshared : Figures → ℕ

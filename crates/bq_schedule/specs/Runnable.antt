@@ -17,16 +17,16 @@ fair_at s t (Some processor) = counted_wide t.accrued (pending (processor_in_fig
 
 -- the fair time of the task with this id, in parts
 abbrev pub fair_of : Figures → ℕ → ℕ
-fair_of s id = let t = task_in_figures s id in fair_at s t t.place
+fair_of s id = let t = task_in_figures s id in fair_at s t t.processor
 
 -- the processor on which a task was placed, if that processor has made no more drains since
 abbrev pub undrained_at : Figures → Option ℕ → Option ℕ → Option ℕ
 undrained_at s (Some processor) (Some drains) = if (processor_in_figures s processor).drains == drains then Some processor else None
-undrained_at s place drains = None
+undrained_at s processor drains = None
 
 -- the processor on which the task with this id was placed, if that processor has not drained its inbox since
 abbrev pub undrained : Figures → ℕ → Option ℕ
-undrained s id = let t = task_in_figures s id in undrained_at s t.place t.drains
+undrained s id = let t = task_in_figures s id in undrained_at s t.processor t.drains
 
 -- a processor's figures after a task of this weight left
 abbrev pub processor_left : ProcessorFigures → ℕ → ProcessorFigures
@@ -36,17 +36,17 @@ processor_left p weight = record p { runnable = p.runnable - 1; weight = p.weigh
 abbrev pub processor_joined : ProcessorFigures → ℕ → ProcessorFigures
 processor_joined p weight = record p { runnable = saturating_sum p.runnable 1; weight = saturating_sum p.weight weight }
 
--- a task is no longer runnable, if it was runnable at this place
+-- a task is no longer runnable, if it was runnable at this processor
 abbrev pub left_from : ℕ → Figures → Option ℕ → Figures
 left_from id s None = s
 left_from id s (Some processor) =
     let t = task_in_figures s id in
     figures_with_task (figures_with_processor s processor (processor_left (processor_in_figures s processor) t.weight)) id
-    (record t { accrued = fair_at s t (Some processor); place = None; drains = None })
+    (record t { accrued = fair_at s t (Some processor); processor = None; drains = None })
 
 -- a task is no longer runnable, if it was
 abbrev pub figures_left : ℕ → Figures → Figures
-figures_left id s = left_from id s (task_in_figures s id).place
+figures_left id s = left_from id s (task_in_figures s id).processor
 
 -- a task that is not runnable becomes runnable here now, and waits
 abbrev pub joins : ℕ → ℕ → ℕ → Figures → Figures
@@ -54,7 +54,7 @@ joins id processor now s =
     let t = task_in_figures s id in
     let p = processor_in_figures s processor in
     figures_with_task (figures_with_processor s processor (processor_joined p t.weight)) id
-    (record t { place = Some processor; since = now; joined = p.shared })
+    (record t { processor = Some processor; since = now; joined = p.shared })
 
 -- a task becomes runnable here, and nowhere else
 abbrev pub comes : ℕ → ℕ → ℕ → Figures → Figures

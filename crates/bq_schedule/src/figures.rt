@@ -15,7 +15,7 @@ pub struct TaskFigures {
     pub weight: u32,
 
     /// The processor at which the task is runnable: the task was placed or pulled there, and has not gone to sleep since.
-    pub place: Option<u8>,
+    pub processor: Option<u8>,
     /// When the task's last wait began: it was placed, preempted or pulled then.
     pub since: u64,
     /// When the task's last wake ended, if the task has not run since.
@@ -60,7 +60,7 @@ impl TaskFigures {
             is_admitted: false,
             nice: 0,
             weight: 0,
-            place: None,
+            processor: None,
             since: 0,
             woken: None,
             drains: None,

@@ -8,9 +8,9 @@ use crate::schedule::Schedule;
 impl Schedule {
     /// The fair time of a task with these figures, in parts of a nanosecond.
     pub(crate) fn fair_of(&self, task: &TaskFigures) -> u128
-        ensures { result ≡ fair_at self.now task.now task.now.place }
+        ensures { result ≡ fair_at self.now task.now task.now.processor }
     {
-        match task.place {
+        match task.processor {
             Some(processor) => task
                 .accrued
                 .saturating_add(self.processor(processor).pending(task)),
@@ -23,11 +23,11 @@ impl Schedule {
         ensures { self.new ≡ figures_left id self.old }
     {
         let mut task = self.task(id);
-        let Some(processor) = task.place else {
+        let Some(processor) = task.processor else {
             return;
         };
         task.accrued = self.fair_of(&task);
-        task.place = None;
+        task.processor = None;
         task.drains = None;
         let mut figures = self.processor(processor);
         figures.leave(task.weight);
@@ -41,7 +41,7 @@ impl Schedule {
     {
         let mut task = self.task(id);
         let mut figures = self.processor(processor);
-        task.place = Some(processor);
+        task.processor = Some(processor);
         task.since = now;
         task.joined = figures.shared;
         figures.join(task.weight);

@@ -103,7 +103,7 @@ impl Schedule {
         ensures { result ≡ undrained self.now id }
     {
         let task = self.task(id);
-        let processor = task.place?;
+        let processor = task.processor?;
         let drains = task.drains?;
         if self.processor(processor).drains == drains {
             Some(processor)
