@@ -269,7 +269,7 @@ impl Drawing {
     ) -> Result<(), AllocError>
         ensures text { OnOk result (string_bytes rows.new.links ≡ string_bytes rows.old.links
             ++ flat_map (link_line kind (picture_setting frame.now) (get nat_cmp rows.old.bands)) self.now.links) }
-        ensures same { rows.new ≡ record rows.old { links = rows.new.links } }
+        ensures unchanged { rows.new ≡ record rows.old { links = rows.new.links } }
     {
         for link in self.links.iter() {
             rows.write_link(kind, link, frame)?;

@@ -492,7 +492,7 @@ impl ScheduleForm for Perfetto {
         ensures events { OnOk result (GrowsByPart
             (IsPerfettoOf self.old.window names.now schedule.now change.now self.old.history self.new.history)
             (string_bytes text.old) (string_bytes text.new)) }
-        ensures same { OnOk result (self.new.window ≡ self.old.window) }
+        ensures unchanged { OnOk result (self.new.window ≡ self.old.window) }
     {
         let shown = shown_of(&self.window, change);
         write_decision(shown.overruled, change.reading, text)?;
@@ -511,7 +511,7 @@ impl ScheduleForm for Perfetto {
     ) -> Result<(), AllocError>
         ensures tail { OnOk result (GrowsByPart (IsPerfettoTail self.old.window names.now schedule.now self.old.history)
             (string_bytes text.old) (string_bytes text.new)) }
-        ensures same { self.new ≡ self.old }
+        ensures unchanged { self.new ≡ self.old }
     {
         for number in 0..PROCESSORS {
             let figures = schedule.processor(number);

@@ -72,7 +72,7 @@ impl Svg {
     /// Holds the shown part of a run, if there is one.
     fn hold_run(&mut self, start: Option<Start>, run: Option<Slice>) -> Result<(), AllocError>
         ensures run { OnOk result (HoldsRun self.old.window start run self.old.drawing self.new.drawing) }
-        ensures same { self.new ≡ record self.old { drawing = self.new.drawing } }
+        ensures unchanged { self.new ≡ record self.old { drawing = self.new.drawing } }
     {
         let part = self.window.shown_part(run);
         match (start, part) {
@@ -84,7 +84,7 @@ impl Svg {
     /// Holds the shown part of a wait, if there is one.
     fn hold_wait(&mut self, wait: Option<Slice>) -> Result<(), AllocError>
         ensures wait { OnOk result (HoldsWait self.old.window wait self.old.drawing self.new.drawing) }
-        ensures same { self.new ≡ record self.old { drawing = self.new.drawing } }
+        ensures unchanged { self.new ≡ record self.old { drawing = self.new.drawing } }
     {
         match self.window.shown_part(wait) {
             Some(part) => self.drawing.push_wait(
@@ -103,7 +103,7 @@ impl Svg {
     fn hold_stop(&mut self, stop: Option<Stop>) -> Result<(), AllocError>
         ensures run { OnOk result (HoldsRun self.old.window (option_map (λ s. s.start) stop) (run_ended_by stop) self.old.drawing self.new.drawing) }
         ensures stops { OnOk result (self.new.stops.entries ≡ with_stop stop self.old.stops.entries) }
-        ensures same { self.new ≡ record self.old { drawing = self.new.drawing; stops = self.new.stops } }
+        ensures unchanged { self.new ≡ record self.old { drawing = self.new.drawing; stops = self.new.stops } }
     {
         self.note_stop(stop)?;
         self.hold_run(start_of(stop), ended_run(stop))
@@ -112,7 +112,7 @@ impl Svg {
     /// Notes when a run ended, if one did.
     fn note_stop(&mut self, stop: Option<Stop>) -> Result<(), AllocError>
         ensures stops { OnOk result (self.new.stops.entries ≡ with_stop stop self.old.stops.entries) }
-        ensures same { self.new ≡ record self.old { stops = self.new.stops } }
+        ensures unchanged { self.new ≡ record self.old { stops = self.new.stops } }
     {
         if let Some(stop) = stop {
             self.stops.insert(stop.start.task, stop.at)?;
@@ -123,7 +123,7 @@ impl Svg {
     /// Holds the wait before a run that began, and the migration of its task, if there is one.
     fn hold_start(&mut self, start: Option<Start>) -> Result<(), AllocError>
         ensures start { OnOk result (HoldsStart self.old.window self.old.stops.entries start self.old.drawing self.new.drawing) }
-        ensures same { self.new ≡ record self.old { drawing = self.new.drawing } }
+        ensures unchanged { self.new ≡ record self.old { drawing = self.new.drawing } }
     {
         self.hold_wait(wait_before(start))?;
         let line = self.migration_link(start);
@@ -163,7 +163,7 @@ impl Svg {
     /// Holds the wait that a pull ended, and the pull.
     fn hold_pull(&mut self, pull: Option<PulledTask>) -> Result<(), AllocError>
         ensures pull { OnOk result (HoldsPull self.old.window pull self.old.drawing self.new.drawing) }
-        ensures same { self.new ≡ record self.old { drawing = self.new.drawing } }
+        ensures unchanged { self.new ≡ record self.old { drawing = self.new.drawing } }
     {
         self.hold_wait(wait_ended(pull))?;
         self.hold_link(pulled_link(pull))
@@ -172,7 +172,7 @@ impl Svg {
     /// Holds a pull or a migration, if it is shown: it ends in the window, and both of its processors are shown.
     fn hold_link(&mut self, link: Option<RowLink>) -> Result<(), AllocError>
         ensures link { OnOk result (HoldsLink self.old.window link self.old.drawing self.new.drawing) }
-        ensures same { self.new ≡ record self.old { drawing = self.new.drawing } }
+        ensures unchanged { self.new ≡ record self.old { drawing = self.new.drawing } }
     {
         let Some(link) = link else {
             return Ok(());
@@ -189,7 +189,7 @@ impl Svg {
     /// Holds a wake, if there is one and it is shown.
     fn hold_wake(&mut self, wake: Option<Wake>) -> Result<(), AllocError>
         ensures wake { OnOk result (HoldsWake self.old.window wake self.old.drawing self.new.drawing) }
-        ensures same { self.new ≡ record self.old { drawing = self.new.drawing } }
+        ensures unchanged { self.new ≡ record self.old { drawing = self.new.drawing } }
     {
         let Some(wake) = wake else {
             return Ok(());
@@ -203,7 +203,7 @@ impl Svg {
     /// Holds the shown parts of the runs that still go on.
     fn hold_runners(&mut self, schedule: &Schedule) -> Result<(), AllocError>
         ensures runs { OnOk result (HoldsRunners self.old.window schedule.now PROCESSORS self.old.drawing self.new.drawing) }
-        ensures same { self.new ≡ record self.old { drawing = self.new.drawing } }
+        ensures unchanged { self.new ≡ record self.old { drawing = self.new.drawing } }
     {
         for number in 0..PROCESSORS {
             let figures = schedule.processor(number);
@@ -215,7 +215,7 @@ impl Svg {
     /// Holds the shown parts of the waits that still go on.
     fn hold_waiting(&mut self, schedule: &Schedule) -> Result<(), AllocError>
         ensures waits { OnOk result (HoldsWaiting self.old.window schedule.now TASKS self.old.drawing self.new.drawing) }
-        ensures same { self.new ≡ record self.old { drawing = self.new.drawing } }
+        ensures unchanged { self.new ≡ record self.old { drawing = self.new.drawing } }
     {
         for id in 0..TASKS {
             self.hold_wait(wait_of(schedule, id))?;
@@ -411,7 +411,7 @@ impl ScheduleForm for Svg {
     ) -> Result<(), AllocError>
         ensures held { OnOk result (HoldsChange self.old.window change.now self.old.stops.entries self.new.stops.entries
             self.old.drawing self.new.drawing) }
-        ensures same { self.new ≡ record self.old { drawing = self.new.drawing; stops = self.new.stops } }
+        ensures unchanged { self.new ≡ record self.old { drawing = self.new.drawing; stops = self.new.stops } }
         ensures none { text.new ≡ text.old }
     {
         self.hold_wake(change.wake)?;

@@ -36,7 +36,7 @@ impl WrittenRows {
     ) -> Result<(), AllocError>
         ensures text { OnOk result (string_bytes self.new.links
             ≡ string_bytes self.old.links ++ link_line kind (picture_setting frame.now) (get nat_cmp self.old.bands) link.now) }
-        ensures same { self.new ≡ record self.old { links = self.new.links } }
+        ensures unchanged { self.new ≡ record self.old { links = self.new.links } }
     {
         if !link.kind.is(kind) {
             return Ok(());

@@ -33,7 +33,7 @@ impl AdmittedTasks {
     /// Gives a task the next place, unless it has one. If memory runs out, nothing changes.
     pub fn admit(&mut self, task: u16) -> Result<(), AllocError>
         ensures ok { OnOk result (self.new ≡ with_admitted task self.old) }
-        ensures err { OnErr result (self.new ≡ self.old) }
+        ensures fault { OnErr result (self.new ≡ self.old) }
     {
         if self.place(task).is_none() {
             self.tasks.push(task)?;

@@ -94,7 +94,7 @@ impl ScheduleForm for Csv {
         text: &mut String,
     ) -> Result<(), AllocError>
         ensures head { OnOk result (string_bytes text.new ≡ string_bytes text.old ++ head_row) }
-        ensures same { self.new ≡ self.old }
+        ensures unchanged { self.new ≡ self.old }
     {
         text.push_str("processor,task,from,to\n")
     }
@@ -108,7 +108,7 @@ impl ScheduleForm for Csv {
     ) -> Result<(), AllocError>
         ensures row { OnOk result ((part : Option Slice) × IsShownPart self.old change.now.slice part
             × (string_bytes text.new ≡ string_bytes text.old ++ optional_slice_row part)) }
-        ensures same { self.new ≡ self.old }
+        ensures unchanged { self.new ≡ self.old }
     {
         match self.window.shown_part(change.slice) {
             Some(slice) => self.write_slice(slice, text),
@@ -123,7 +123,7 @@ impl ScheduleForm for Csv {
         text: &mut String,
     ) -> Result<(), AllocError>
         ensures none { string_bytes text.new ≡ string_bytes text.old }
-        ensures same { self.new ≡ self.old }
+        ensures unchanged { self.new ≡ self.old }
     {
         Ok(())
     }

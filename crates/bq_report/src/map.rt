@@ -51,8 +51,8 @@ impl Map {
     /// Holds the part of a run that is in the window, whether its task is shown or not. If memory runs out, nothing changes.
     fn hold(&mut self, run: Option<Slice>) -> Result<(), AllocError>
         ensures ok { OnOk result (RowsHold self.old.window run self.old.rows.items self.new.rows.items) }
-        ensures err { OnErr result (self.new.rows.items ≡ self.old.rows.items) }
-        ensures same { (self.new.window ≡ self.old.window) × (self.new.width ≡ self.old.width) × (self.new.admitted ≡ self.old.admitted) }
+        ensures fault { OnErr result (self.new.rows.items ≡ self.old.rows.items) }
+        ensures unchanged { (self.new.window ≡ self.old.window) × (self.new.width ≡ self.old.width) × (self.new.admitted ≡ self.old.admitted) }
     {
         match held_part(self.alloc, &self.window, run) {
             Some(run) => hold_part(&self.window, run, &mut self.rows),
@@ -63,7 +63,7 @@ impl Map {
     /// Holds the last run of each processor, which may still go on when the schedule ends.
     fn hold_last(&mut self, schedule: &Schedule) -> Result<(), AllocError>
         ensures rows { OnOk result (HoldsLast self.old.window schedule.now PROCESSORS self.old.rows.items self.new.rows.items) }
-        ensures same { (self.new.window ≡ self.old.window) × (self.new.width ≡ self.old.width) × (self.new.admitted ≡ self.old.admitted) }
+        ensures unchanged { (self.new.window ≡ self.old.window) × (self.new.width ≡ self.old.width) × (self.new.admitted ≡ self.old.admitted) }
     {
         for number in 0..PROCESSORS {
             self.hold(schedule.processor(number).run)?;
@@ -133,7 +133,7 @@ fn held_part(alloc: Global, window: &Window, run: Option<Slice>) -> Option<Slice
 /// Holds a part of a run in its processor's row, if there is one. If memory runs out, nothing changes.
 fn hold_part(window: &Window, run: Slice, rows: &mut Vec<MapRow>) -> Result<(), AllocError>
     ensures ok { OnOk result (HoldsPart window.now (Some run) rows.old.items rows.new.items) }
-    ensures err { OnErr result (rows.new.items ≡ rows.old.items) }
+    ensures fault { OnErr result (rows.new.items ≡ rows.old.items) }
 {
     let is_shown = window.shows_task(run.task);
     let number = usize::from(run.processor);
@@ -201,14 +201,14 @@ impl ScheduleForm for Map {
     ) -> Result<(), AllocError>
         ensures rows { OnOk result (self.new.rows.items ≡ self.old.rows.items ++ replicate (length schedule.now.processors) empty_map_row) }
         ensures none { string_bytes text.new ≡ string_bytes text.old }
-        ensures same { (self.new.window ≡ self.old.window) × (self.new.width ≡ self.old.width) × (self.new.admitted ≡ self.old.admitted) }
+        ensures unchanged { (self.new.window ≡ self.old.window) × (self.new.width ≡ self.old.width) × (self.new.admitted ≡ self.old.admitted) }
     {
         add_rows(self.alloc, schedule.processors(), &mut self.rows)
     }
 
     fn admit(&mut self, task: u16) -> Result<(), AllocError>
         ensures ok { OnOk result (self.new ≡ record self.old { admitted = with_admitted task self.old.admitted }) }
-        ensures err { OnErr result (self.new ≡ self.old) }
+        ensures fault { OnErr result (self.new ≡ self.old) }
     {
         self.admitted.admit(task)
     }
@@ -221,9 +221,9 @@ impl ScheduleForm for Map {
         text: &mut String,
     ) -> Result<(), AllocError>
         ensures ok { OnOk result (RowsHold self.old.window change.now.run self.old.rows.items self.new.rows.items) }
-        ensures err { OnErr result (self.new.rows.items ≡ self.old.rows.items) }
+        ensures fault { OnErr result (self.new.rows.items ≡ self.old.rows.items) }
         ensures none { string_bytes text.new ≡ string_bytes text.old }
-        ensures same { (self.new.window ≡ self.old.window) × (self.new.width ≡ self.old.width) × (self.new.admitted ≡ self.old.admitted) }
+        ensures unchanged { (self.new.window ≡ self.old.window) × (self.new.width ≡ self.old.width) × (self.new.admitted ≡ self.old.admitted) }
     {
         self.hold(change.run)
     }

@@ -50,7 +50,7 @@ impl MapRow {
     /// Holds one more run, whose task is shown or not. If memory runs out, nothing changes.
     pub(crate) fn hold(&mut self, run: Slice, is_shown: bool) -> Result<(), AllocError>
         ensures ok { OnOk result (self.new ≡ map_row_with_run is_shown run self.old) }
-        ensures err { OnErr result (self.new ≡ self.old) }
+        ensures fault { OnErr result (self.new ≡ self.old) }
     {
         if is_shown {
             self.shown.push(run)?;
@@ -80,7 +80,7 @@ impl MapRow {
 /// Sorts runs by their beginnings.
 fn sort(runs: &mut Vec<Slice>)
     ensures order { IsNonDecreasingBy (λ (run : Slice). run.from) runs.new.items }
-    ensures same { IsPermutation runs.old.items runs.new.items }
+    ensures kept { IsPermutation runs.old.items runs.new.items }
 {
     runs.sort_unstable_by_key(|run| run.from);
 }

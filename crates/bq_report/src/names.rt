@@ -40,7 +40,7 @@ impl Names {
     /// Reads a comment as the trace has it. A comment that names no task changes nothing. If memory runs out, nothing changes.
     pub fn learn(&mut self, comment: &[u8]) -> Result<(), AllocError>
         ensures ok { OnOk result (Learns comment.now self.old self.new) }
-        ensures err { OnErr result ((task : ℕ) → name_of self.new task ≡ name_of self.old task) }
+        ensures fault { OnErr result ((task : ℕ) → name_of self.new task ≡ name_of self.old task) }
     {
         if let Some((task, name)) = naming(comment) {
             let name = String::from_str(self.alloc, name)?;

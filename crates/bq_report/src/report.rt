@@ -210,7 +210,7 @@ impl ScheduleForm for Report {
         text: &mut String,
     ) -> Result<(), AllocError>
         ensures none { string_bytes text.new ≡ string_bytes text.old }
-        ensures same { self.new ≡ self.old }
+        ensures unchanged { self.new ≡ self.old }
     {
         Ok(())
     }
@@ -223,9 +223,9 @@ impl ScheduleForm for Report {
         text: &mut String,
     ) -> Result<(), AllocError>
         ensures ok { OnOk result (TakesStart change.now.start self.old.latencies self.new.latencies) }
-        ensures err { OnErr result (HaveSameLatencies self.old.latencies self.new.latencies) }
+        ensures fault { OnErr result (HaveSameLatencies self.old.latencies self.new.latencies) }
         ensures none { string_bytes text.new ≡ string_bytes text.old }
-        ensures same { (self.new.window ≡ self.old.window) × (self.new.missed ≡ self.old.missed) }
+        ensures unchanged { (self.new.window ≡ self.old.window) × (self.new.missed ≡ self.old.missed) }
     {
         self.latencies.take(change)
     }

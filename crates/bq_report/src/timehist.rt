@@ -294,7 +294,7 @@ impl ScheduleForm for Timehist {
         text: &mut String,
     ) -> Result<(), AllocError>
         ensures head { OnOk result (string_bytes text.new ≡ string_bytes text.old ++ head_lines) }
-        ensures same { self.new ≡ self.old }
+        ensures unchanged { self.new ≡ self.old }
     {
         text.push_str(HEAD)
     }
@@ -309,7 +309,7 @@ impl ScheduleForm for Timehist {
         ensures lines { OnOk result ((wake : Option Wake) × (stop : Option Stop) × (migration : Option Start)
             × IsShownWake self.old change.now.wake wake × IsShownStop self.old change.now.stop stop × IsShownMigration self.old change.now.start migration
             × (string_bytes text.new ≡ string_bytes text.old ++ change_text names.now schedule.now wake stop migration)) }
-        ensures same { self.new ≡ self.old }
+        ensures unchanged { self.new ≡ self.old }
     {
         let wake = self.shown_wake(change.wake);
         let stop = self.shown_stop(change.stop);
@@ -325,7 +325,7 @@ impl ScheduleForm for Timehist {
     ) -> Result<(), AllocError>
         ensures lines { OnOk result ((lines : List ℕ) × AreLastLines self.old names.now schedule.now PROCESSORS lines
             × (string_bytes text.new ≡ string_bytes text.old ++ lines)) }
-        ensures same { self.new ≡ self.old }
+        ensures unchanged { self.new ≡ self.old }
     {
         write_runners(&self.window, schedule, names, text)
     }

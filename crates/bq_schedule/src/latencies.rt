@@ -34,7 +34,7 @@ impl Latencies {
     /// Adds one latency. If memory runs out, nothing changes.
     pub fn push(&mut self, latency: u64) -> Result<(), AllocError>
         ensures ok { OnOk result (self.new ≡ self.old ++ latency ∷ []) }
-        ensures err { OnErr result (self.new ≡ self.old) }
+        ensures fault { OnErr result (self.new ≡ self.old) }
     {
         self.values.push(latency)?;
         Ok(())

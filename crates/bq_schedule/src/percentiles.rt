@@ -48,7 +48,7 @@ impl WakeLatencies {
     /// Takes the latency of the start in a change, if there is one. If memory runs out, nothing changes.
     pub fn take(&mut self, change: &Change) -> Result<(), AllocError>
         ensures ok { OnOk result (TakesStart change.now.start self.old self.new) }
-        ensures err { OnErr result (HaveSameLatencies self.old self.new) }
+        ensures fault { OnErr result (HaveSameLatencies self.old self.new) }
     {
         let Some(start) = change.start else {
             return Ok(());

@@ -136,7 +136,7 @@ impl Screen {
         schedule: &Schedule,
     ) -> Result<(), AllocError>
         ensures table { OnOk result (HasTable shown.now self.new.bounds) }
-        ensures rest { self.new ≡ record self.old { bounds = self.new.bounds } }
+        ensures unchanged { self.new ≡ record self.old { bounds = self.new.bounds } }
     {
         self.bounds = match shown {
             Shown::Report(_) => Some(BoundsTable::new(alloc, discipline, schedule.processors())?),
@@ -150,7 +150,7 @@ impl Screen {
         ensures form { IfOk result (IsAskedFor settings self.old.names) }
         ensures empty { IfOk result (IsEmptyForm settings.width settings.look) }
         ensures tasks { OnOk result (self.new.tasks.items ≡ settings.window.tasks.items ++ tasks_for self.old.names settings.names.items) }
-        ensures rest { self.new ≡ record self.old { tasks = self.new.tasks } }
+        ensures unchanged { self.new ≡ record self.old { tasks = self.new.tasks } }
     {
         let Settings {
             form,
@@ -167,7 +167,7 @@ impl Screen {
     /// Learns the name of a task from a comment, if it names one.
     pub(crate) fn comment(&mut self, line: &[u8]) -> Result<(), AllocError>
         ensures learned { OnOk result (Learns line.now self.old.names self.new.names) }
-        ensures rest { self.new ≡ record self.old { names = self.new.names } }
+        ensures unchanged { self.new ≡ record self.old { names = self.new.names } }
     {
         self.names.learn(line)
     }
@@ -224,7 +224,7 @@ impl Screen {
         change: &Change,
     ) -> Result<(), AllocError>
         ensures table { KeepsTable self.old.bounds self.new.bounds }
-        ensures rest { self.new ≡ record self.old { bounds = self.new.bounds } }
+        ensures unchanged { self.new ≡ record self.old { bounds = self.new.bounds } }
     {
         match &mut self.bounds {
             Some(bounds) => bounds.answered(event, reply, machine, change),
@@ -241,7 +241,7 @@ impl Screen {
     ) -> Result<(), AllocError>
         ensures form { OnOk result (IfShown (FormAnswers done.now.event.now done.now.change.now schedule.now self.old.names)
             self.old.shown self.new.shown (string_bytes self.old.text) (string_bytes self.new.text)) }
-        ensures rest { self.new ≡ record self.old { shown = self.new.shown; text = self.new.text } }
+        ensures unchanged { self.new ≡ record self.old { shown = self.new.shown; text = self.new.text } }
     {
         match &mut self.shown {
             Some(shown) => shown.answered(done, machine, schedule, &self.names, &mut self.text),
@@ -358,7 +358,7 @@ impl Screen {
     /// Ends the form, if it has begun.
     fn end_form(&mut self, schedule: &Schedule) -> Result<(), AllocError>
         ensures form { OnOk result (FormEndsIf schedule.now self.old.names self.old.shown (string_bytes self.old.text) (string_bytes self.new.text)) }
-        ensures rest { self.new ≡ record self.old { shown = self.new.shown; text = self.new.text } }
+        ensures unchanged { self.new ≡ record self.old { shown = self.new.shown; text = self.new.text } }
     {
         match &mut self.shown {
             Some(shown) => shown.end(schedule, &self.names, &mut self.text),
@@ -369,7 +369,7 @@ impl Screen {
     /// Adds the table of bounds, if there is one.
     fn write_bounds(&mut self) -> Result<(), AllocError>
         ensures table { OnOk result (StandsBehind self.old.bounds (string_bytes self.old.text) (string_bytes self.new.text)) }
-        ensures rest { self.new ≡ record self.old { text = self.new.text } }
+        ensures unchanged { self.new ≡ record self.old { text = self.new.text } }
     {
         match &self.bounds {
             Some(bounds) => bounds.write(self.part.processors, &mut self.text),
@@ -380,7 +380,7 @@ impl Screen {
     /// The trace is over and made no machine. `troubles` is how many lines were bad or refused.
     pub fn end_unmade(&mut self, troubles: u64) -> Result<(), AllocError>
         ensures notes { OnOk result (string_bytes self.new.notes ≡ string_bytes self.old.notes ++ last_notes None troubles) }
-        ensures rest { ChangesOnlyNotes self.old self.new }
+        ensures unchanged { ChangesOnlyNotes self.old self.new }
     {
         note_unmade(&mut self.notes, troubles)?;
         note_troubles(&mut self.notes, troubles)

@@ -103,7 +103,7 @@ impl Showing {
             → WatchesAndWrites self.old.viewer self.new.viewer (W.contents (counted_inner output.old)) (W.contents (counted_inner output.new))
             (λ reported. ReportsPiece self.old.position begun piece.now reported self.new.position)) }
         ensures empty { OnOk result (string_bytes self.new.viewer.screen.text ≡ []) }
-        ensures kept { OnOk result (failures_of output.new ≡ failures_of output.old) }
+        ensures unchanged { OnOk result (failures_of output.new ≡ failures_of output.old) }
         ensures fault { IfErr result (λ e. IsWriteFault e (failures_of output.old) (failures_of output.new)) }
     {
         self.position.go_on(self.alloc, piece, &mut self.viewer)?;
@@ -118,7 +118,7 @@ impl Showing {
     fn finish<W: Write>(&mut self, output: &mut Counted<W>) -> Result<Outcome, StreamFault>
         ensures reported { IfOk result (λ outcome. (begun : List ℕ) → KeepsLine self.old.position.begun begun
             → Closes self.old begun (W.contents (counted_inner output.old)) (W.contents (counted_inner output.new)) outcome) }
-        ensures kept { OnOk result (failures_of output.new ≡ failures_of output.old) }
+        ensures unchanged { OnOk result (failures_of output.new ≡ failures_of output.old) }
         ensures fault { IfErr result (λ e. IsWriteFault e (failures_of output.old) (failures_of output.new)) }
     {
         self.position.end(self.alloc, &mut self.viewer)?;

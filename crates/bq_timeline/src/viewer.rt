@@ -139,10 +139,10 @@ impl Sink for Viewer {
     ghost takes = { λ old n traced new. TakesEvent old traced new };
 
     fn take(&mut self, number: u64, event: &TraceEvent<'_>) -> Result<(), AllocError>
-        ensures kept { OnOk result (TakesEvent self.old (event_of event.now) self.new) }
+        ensures taken { OnOk result (TakesEvent self.old (event_of event.now) self.new) }
 
         // A comment changes only the names, even if memory runs out.
-        ensures rest { IsSkipped (event_of event.now) → ViewerRests self.old self.new }
+        ensures unchanged { IsSkipped (event_of event.now) → ViewerRests self.old self.new }
         ensures short_line { OnOk result (ReadsComment (event_of event.now) self.old.screen.names self.new.screen.names) }
     {
         match event {

@@ -19,7 +19,7 @@ comments-preserved c =
     let learnt : Learns (string_bytes (get_or all i comment)) mid new =
     subst (λ (l : List ℕ). Learns l mid new) line c.in_ok-take.ensures.short_line in
     record {
-      rest = rests_on c.args.viewer.now c.comments.viewer c.take.new.self c.comments.invariant.rest (c.take.ensures.rest tt);
+      rest = rests_on c.args.viewer.now c.comments.viewer c.take.new.self c.comments.invariant.rest (c.take.ensures.unchanged tt);
       names = subst (λ (lines : List (List ℕ)). LearnsAll lines old new) (sym (map_more string_bytes all i comment c.comments-test.true))
           (learns_more (map string_bytes (take i all)) (string_bytes (get_or all i comment)) old mid new c.comments.invariant.names learnt);
     }

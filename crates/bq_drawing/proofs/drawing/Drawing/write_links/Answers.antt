@@ -28,7 +28,7 @@ loop-link-preserved c =
           (subst (λ (l : List RowLink). string_bytes c.loop-link.rows.links ++ flat_map draw (drop i l) ≡ whole)
           (sym are) c.loop-link.invariant.text));
       same =
-          c.write_link.ensures.same
+          c.write_link.ensures.unchanged
           ∙ ap (λ (r : WrittenRows). record r { links = c.write_link.new.self.links }) c.loop-link.invariant.same;
     }
 

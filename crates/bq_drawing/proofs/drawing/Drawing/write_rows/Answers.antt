@@ -28,5 +28,5 @@ pub returns : goal.returns
 returns c =
     let end : c.loop-number.number ≡ 64 = omega (arith, c.loop-number.invariant.within, c.loop-number-test.false) in
     drawn_all c.args.window.now (picture_setting c.args.frame.now) c.args.self.now c.loop-number.number c.loop-number.rows
-    c.write_links.new.rows _ end c.loop-number.invariant.lines c.loop-number.invariant.rows c.write_links.ensures.same
-    c.write_links-2.ensures.same c.in_ok-write_links.ensures.text c.in_ok-write_links-2.ensures.text
+    c.write_links.new.rows _ end c.loop-number.invariant.lines c.loop-number.invariant.rows c.write_links.ensures.unchanged
+    c.write_links-2.ensures.unchanged c.in_ok-write_links.ensures.text c.in_ok-write_links-2.ensures.text

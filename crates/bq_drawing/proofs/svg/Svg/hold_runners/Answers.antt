@@ -20,7 +20,7 @@ loop-number-preserved c =
           (λ w. HoldsRun w p.running (run_on p) c.loop-number.self.drawing c.hold_run.new.self.drawing) window
           (subst (λ run. HoldsRun c.loop-number.self.window p.running run c.loop-number.self.drawing c.hold_run.new.self.drawing)
           c.run_on.ensures c.in_ok-hold_run.ensures.run));
-      same = c.hold_run.ensures.same ∙ ap (λ (v : Svg). record v { drawing = c.hold_run.new.self.drawing }) c.loop-number.invariant.same;
+      same = c.hold_run.ensures.unchanged ∙ ap (λ (v : Svg). record v { drawing = c.hold_run.new.self.drawing }) c.loop-number.invariant.same;
     }
 
 pub returns-clause-runs : goal.returns-clause-runs

@@ -17,7 +17,7 @@ loop-id-preserved c =
           c.loop-id.invariant.waits c.wait_of.ensures
           (subst (λ w. HoldsWait w c.wait_of.result c.loop-id.self.drawing c.hold_wait.new.self.drawing) window
           c.in_ok-hold_wait.ensures.wait);
-      same = c.hold_wait.ensures.same ∙ ap (λ (v : Svg). record v { drawing = c.hold_wait.new.self.drawing }) c.loop-id.invariant.same;
+      same = c.hold_wait.ensures.unchanged ∙ ap (λ (v : Svg). record v { drawing = c.hold_wait.new.self.drawing }) c.loop-id.invariant.same;
     }
 
 pub returns-clause-waits : goal.returns-clause-waits

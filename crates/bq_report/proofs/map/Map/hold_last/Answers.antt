@@ -20,7 +20,7 @@ loop-number-preserved c = record {
       c.processor.result.run c.loop-number.invariant.rows (ap (λ figures. figures.run) c.processor.ensures)
       (subst (λ w. RowsHold w c.processor.result.run c.loop-number.self.rows.items c.hold.new.self.rows.items)
       c.loop-number.invariant.window c.in_ok-hold.ensures.ok);
-  window = c.hold.ensures.same.0 ∙ c.loop-number.invariant.window;
-  width = c.hold.ensures.same.1 ∙ c.loop-number.invariant.width;
-  admitted = c.hold.ensures.same.2 ∙ c.loop-number.invariant.admitted;
+  window = c.hold.ensures.unchanged.0 ∙ c.loop-number.invariant.window;
+  width = c.hold.ensures.unchanged.1 ∙ c.loop-number.invariant.width;
+  admitted = c.hold.ensures.unchanged.2 ∙ c.loop-number.invariant.admitted;
 }

@@ -11,7 +11,7 @@ returns-in-Some c =
       c.in_ok-hold_last.ensures.rows,
       map_of_time c.args.self.now.window c.hold_last.new.self.window c.args.names.now c.args.schedule.now
           c.args.self.now.admitted c.hold_last.new.self.admitted c.args.self.now.width c.hold_last.new.self.width
-          c.hold_last.new.self.rows.items c.in-Some.extent _ _ c.hold_last.ensures.same c.in-Some.ensures.window
+          c.hold_last.new.self.rows.items c.in-Some.extent _ _ c.hold_last.ensures.unchanged c.in-Some.ensures.window
           c.in-Some.ensures.extent drawn,
     )) c.write_over.ensures
 
@@ -21,7 +21,7 @@ returns-in-None c =
       c.hold_last.new.self.rows.items,
       c.in_ok-hold_last.ensures.rows,
       map_of_no_time c.args.self.now.window c.hold_last.new.self.window c.args.names.now c.args.schedule.now
-          c.args.self.now.admitted c.args.self.now.width c.hold_last.new.self.rows.items _ _ c.hold_last.ensures.same.0
+          c.args.self.now.admitted c.args.self.now.width c.hold_last.new.self.rows.items _ _ c.hold_last.ensures.unchanged.0
           c.in-None.ensures.none shows,
     )) (pushed c.push_str.result (string_bytes c.args.text.now) (codes "no time passes in what is shown\n")
     (string_bytes c.push_str.new.self) c.push_str.ensures.bytes)

@@ -2,8 +2,8 @@ use Rattle.bq_report.proofs.NameLemmas.{same_names, where_err, learns, learns_no
 use Rattle.bq_report.proofs.names.Names.learn.Goals as goal
 use Rattle.bq_report.proofs.names.Names.learn.Goals.{in-Some-1, in-None-1}
 
-pub returns-in_err-insert-clause-err : goal.returns-in_err-insert-clause-err
-returns-in_err-insert-clause-err c =
+pub returns-in_err-insert-clause-fault : goal.returns-in_err-insert-clause-fault
+returns-in_err-insert-clause-fault c =
     rw (← c.self.view_is) (where_err _ _ (same_names c.self.inside.names c.insert.new.self c.in_err-insert.ensures.err))
 
 pub returns-in_ok-insert-clause-ok : goal.returns-in_ok-insert-clause-ok

@@ -9,8 +9,8 @@ use Rattle.bq_timeline.proofs.screen.Screen.begin_form.Goals as goal
 pub returns-clause-form : goal.returns-clause-form
 returns-clause-form c =
     let old = c.args.self.now in
-    let rest = c.begin_bounds.ensures.rest in
-    let made = c.form_of.ensures.rest in
+    let rest = c.begin_bounds.ensures.unchanged in
+    let made = c.form_of.ensures.unchanged in
     record {
       shown = stays_asked c.args.settings old.names _ _ c.in_ok-shown.ensures.form c.begin.ensures.stays;
       tasks = ap (λ (s : Screen). s.tasks.items) rest ∙ c.in_ok-shown.ensures.tasks;
@@ -24,8 +24,8 @@ returns-clause-form c =
 
 pub returns-clause-text : goal.returns-clause-text
 returns-clause-text c =
-    let rest = c.begin_bounds.ensures.rest in
-    let made = c.form_of.ensures.rest in
+    let rest = c.begin_bounds.ensures.unchanged in
+    let made = c.form_of.ensures.unchanged in
     let text = ap (λ (s : Screen). string_bytes s.text) rest ∙ ap (λ (s : Screen). string_bytes s.text) made in
     record {
       fresh = c.in_ok-shown.shown;
