@@ -1,5 +1,5 @@
 -- The machine states that an abstract state describes.
-use Rattle.std.specs.Prelude.{Bool, ◌≡◌, ℕ, ◌+◌, ◌*◌, ◌%◌, ◌^◌, ◌<◌, ◌≤◌, true, false, List, Option, Some, None, length, slice_get, slice_set, slice_index, slice_index_or, ◌⊎◌}
+use Rattle.std.specs.Prelude.{Bool, ◌≡◌, ℕ, ◌+◌, ◌*◌, ◌%◌, ◌^◌, ◌<◌, ◌≤◌, true, false, List, Option, Some, None, length, slice_get, slice_set, slice_index, slice_index_or, IsTrue, ◌⊎◌}
 use Rattle.std.specs.Int.{byte_at}
 use Rattle.bq_bpf.specs.declared.shape.MapShape.{MapShape}
 use Rattle.bq_bpf.specs.Memory.{Setting, State, Region, Reads, InContext, InStack, InEntry, Spans, IsEntry, reference, values_base, context_base, stack_base, HaveShapes, stack_size, written}
@@ -7,6 +7,7 @@ use Rattle.bq_bpf.specs.Steps.{IsOperand, next}
 use Rattle.bq_insn.specs.declared.Source.{Source}
 use Rattle.bq_ranges.specs.declared.range.Range.{Range}
 use Rattle.bq_ranges.specs.Within.{Within}
+use Rattle.bq_states.specs.Certainty.{Pointer, CertaintyHoldsAt}
 use Rattle.bq_states.specs.Copies.{AreCopies}
 use Rattle.bq_states.specs.Parts.{HaveParts}
 use Rattle.bq_states.specs.declared.abstract_state.ValueKind.{ValueKind}
@@ -127,6 +128,11 @@ FindsBytes shapes context_length state r count = (f : Setting) (s : State) → S
 -- all stack bytes from `from` up to but not including `to` are set
 abbrev pub AreSet : List Bool → ℕ → ℕ → Type 0
 AreSet set from to = (i : ℕ) → from ≤ i → i < to → slice_index_or set i false ≡ true
+
+-- the answer is true if the register surely points to `count` bytes of the stack that are all set
+abbrev pub AcceptsSetBytes : AbstractState → ℕ → ℕ → Bool → Type 0
+AcceptsSetBytes v r count answer =
+    (at : ℕ) → CertaintyHoldsAt (Pointer Stack at) v r → at + count ≤ stack_size → AreSet v.set at (at + count) → IsTrue answer
 
 -- only stack bytes from `from` up to but not including `to` were newly set
 abbrev pub Marks : List Bool → List Bool → ℕ → ℕ → Type 0

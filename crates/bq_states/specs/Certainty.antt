@@ -1,5 +1,5 @@
 -- What is sure of an abstract state. These facts are why straight programs are accepted.
-use Rattle.std.specs.Prelude.{true, false, ◌≡◌, ◌≢◌, ℕ, ◌<◌, ◌≤◌, Option, Some, None, slice_index_or}
+use Rattle.std.specs.Prelude.{true, false, ◌≡◌, ◌≢◌, ℕ, ◌<◌, ◌≤◌, List, Option, Some, None, slice_index_or}
 use Rattle.bq_insn.specs.declared.Source.TheVariants.{Imm, Reg}
 use Rattle.bq_insn.specs.declared.Source.{Source}
 use Rattle.bq_states.specs.declared.abstract_state.ValueKind.TheVariants.{Number}
@@ -29,6 +29,11 @@ CertaintyHolds NoPointer (Some k) = k.kind ≡ Number
 -- the certainty holds for a register of the abstract state
 abbrev pub CertaintyHoldsAt : Certainty → AbstractState → ℕ → Type 0
 CertaintyHoldsAt s state r = CertaintyHolds s (slice_index_or state.registers r None)
+
+-- at each place the new list keeps a certainty that holds in both the old list and the other one
+abbrev pub KeepsCommonCertainties : List (Option AbstractValue) → List (Option AbstractValue) → List (Option AbstractValue) → Type 0
+KeepsCommonCertainties old other new =
+    (s : Certainty) (k : ℕ) → CertaintyHolds s (slice_index_or old k None) → CertaintyHolds s (slice_index_or other k None) → CertaintyHolds s (slice_index_or new k None)
 
 -- a fact: a certainty about a register; a stack byte is set; a slot of eight bytes keeps no pointer; or `Never`, which
 -- holds for no abstract state

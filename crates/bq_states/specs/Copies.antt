@@ -21,6 +21,18 @@ AreCopies classes related s = (word : ℕ → ℕ) × HaveWords classes s word �
 abbrev pub HoldsClass : List ℕ → List (Option Related) → State → ℕ → ℕ → Type 0
 HoldsClass classes related s place class = (copies : AreCopies classes related s) × HasWord s place (copies.0 class)
 
+-- in each state about which the old classes and relations are right, and in which the place holds a word, the new ones
+-- are right, the place holds the word of this class, and the word of class `beside` is as before
+abbrev pub GivesClass : List ℕ → List (Option Related) → List ℕ → List (Option Related) → ℕ → ℕ → ℕ → Type 0
+GivesClass old_classes old_related new_classes new_related place beside class =
+    (s : State) (n : ℕ) (was : AreCopies old_classes old_related s) → HasWord s place n → (is : HoldsClass new_classes new_related s place class) × (is.0.0 beside ≡ was.0 beside)
+
+-- the new classes and relations are right about each state about which the old ones are, if place `from` holds a word
+-- there, and place `to` holds every word that `from` holds
+abbrev pub LinksPlaces : List ℕ → List (Option Related) → List ℕ → List (Option Related) → ℕ → ℕ → Type 0
+LinksPlaces old_classes old_related new_classes new_related to from =
+    (s : State) (n : ℕ) → AreCopies old_classes old_related s → HasWord s from n → ((m : ℕ) → HasWord s from m → HasWord s to m) → AreCopies new_classes new_related s
+
 -- each place keeps its class or has none now
 abbrev pub KeepsClasses : List ℕ → List ℕ → Type 0
 KeepsClasses old new = (p : ℕ) → slice_index new p ≢ 0 → slice_index new p ≡ slice_index old p

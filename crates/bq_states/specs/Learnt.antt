@@ -4,7 +4,7 @@ use Rattle.bq_ranges.specs.declared.range.Range.{Range}
 use Rattle.bq_ranges.specs.Within.{Within}
 use Rattle.bq_states.specs.declared.relations.Related.{Related}
 use Rattle.bq_states.specs.declared.relations.Relation.{Relation}
-use Rattle.bq_states.specs.Relations.{IsRelated, IsRelatedBy}
+use Rattle.bq_states.specs.Relations.{IsRelated, IsRelatedBy, Relates}
 use Rattle.bq_insn.specs.declared.Source.{Source}
 use Rattle.bq_insn.specs.declared.Source.TheVariants.{Reg}
 use Rattle.bq_bpf.specs.declared.shape.MapShape.{MapShape}
@@ -57,6 +57,12 @@ SharpensBy r learnt class old new =
 -- if the right operand is a register, it is set to a word with the property
 abbrev pub HoldsRight : State → Source → (ℕ → Type 0) → Type 0
 HoldsRight s src holds = (r : ℕ) → src ≡ Reg r → (n : ℕ) × (s.register r ≡ Some n) × holds n
+
+-- the new abstract state describes each state of the old one in which register `dst` is set, and the relation holds between
+-- it and the right operand if that is a register
+abbrev pub LearnsRelation : ℕ → Source → Relation → AbstractState → AbstractState → Type 0
+LearnsRelation dst src relation old new =
+    (f : Setting) (s : State) (a : ℕ) → Contains f old s → s.register dst ≡ Some a → HoldsRight s src (Relates relation a) → Contains f new s
 
 -- `left` and `right` describe the operands of a branch, and the relation holds between them
 pub record DescribesBranch (f : Setting) (s : State) (dst : ℕ) (src : Source) (left right : AbstractValue) (relation : Relation) : Type 0 where

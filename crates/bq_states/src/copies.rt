@@ -1,8 +1,8 @@
 //! Places that are known to hold the same word: the registers, and after them the slots of eight bytes of the stack.
 
 ghost use Rattle.std.specs.Prelude.{◌≡◌, ◌≢◌, ◌+◌, ◌<◌, ◌≤◌, ℕ, length, slice_index};
-ghost use Rattle.bq_bpf.specs.Memory.{State, stack_size};
-ghost use Rattle.bq_states.specs.Copies.{AreCopies, HasWord, HoldsClass, KeepsClasses, ForgetsFirstClasses, ForgetsSlotClasses};
+ghost use Rattle.bq_bpf.specs.Memory.{stack_size};
+ghost use Rattle.bq_states.specs.Copies.{GivesClass, LinksPlaces, KeepsClasses, ForgetsFirstClasses, ForgetsSlotClasses};
 
 use crate::abstract_state::PLACES;
 use crate::relations::{Related, unrelate};
@@ -35,7 +35,7 @@ pub fn link(classes: &mut [u8], related: &mut [Option<Related>], to: usize, from
     requires to { to < length classes.old }
     requires from { from < PLACES }
     requires room { length classes.old ≡ PLACES }
-    ensures { (s : State) (n : ℕ) → AreCopies classes.old related.old s → HasWord s from n → ((m : ℕ) → HasWord s from m → HasWord s to m) → AreCopies classes.new related.new s }
+    ensures { LinksPlaces classes.old related.old classes.new related.new to from }
 {
     let class = class_of(classes, related, from, 0);
     classes[to] = class;
@@ -49,7 +49,7 @@ pub fn class_of(classes: &mut [u8], related: &mut [Option<Related>], place: usiz
     ensures some { result ≢ 0 }
     ensures long { length classes.new ≡ PLACES }
     ensures room { length related.new ≡ length related.old }
-    ensures word { (s : State) (n : ℕ) (was : AreCopies classes.old related.old s) → HasWord s place n → (is : HoldsClass classes.new related.new s place result) × (is.0.0 beside ≡ was.0 beside) }
+    ensures word { GivesClass classes.old related.old classes.new related.new place beside result }
 {
     let class = classes[place];
     if class != 0 {

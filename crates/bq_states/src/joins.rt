@@ -2,7 +2,7 @@
 
 ghost use Rattle.std.specs.Prelude.{◌≡◌, ◌≢◌, ℕ, true, IsTrue, None, Some, length, slice_index_or, false};
 ghost use Rattle.bq_bpf.specs.Memory.{Setting, State};
-ghost use Rattle.bq_states.specs.Certainty.{Fact, Has, Certainty, CertaintyHolds};
+ghost use Rattle.bq_states.specs.Certainty.{Fact, Has, Certainty, CertaintyHolds, KeepsCommonCertainties};
 ghost use Rattle.bq_states.specs.AbstractStates.{Allows, AreAlike, Contains, IsBase};
 
 use crate::abstract_state::{AbstractState, AbstractValue, ValueKind};
@@ -101,7 +101,7 @@ fn join_all(
     requires { length into.old ≡ length other.now }
     ensures left { (k : ℕ) → Allows shapes.now (slice_index_or into.old k None) (slice_index_or into.new k None) }
     ensures right { (k : ℕ) → Allows shapes.now (slice_index_or other.now k None) (slice_index_or into.new k None) }
-    ensures stands { (s : Certainty) (k : ℕ) → CertaintyHolds s (slice_index_or into.old k None) → CertaintyHolds s (slice_index_or other.now k None) → CertaintyHolds s (slice_index_or into.new k None) }
+    ensures stands { KeepsCommonCertainties into.old other.now into.new }
 {
     for i in 0..into.len() {
         into[i] = join(shapes, into[i], other[i]);

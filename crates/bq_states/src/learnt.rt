@@ -3,8 +3,7 @@
 ghost use Rattle.std.specs.Prelude.{◌≡◌, ◌≢◌, ◌+◌, ◌^◌, ◌<◌, ◌≤◌, ℕ, List, Some, None, length, slice_index, slice_index_or};
 ghost use Rattle.bq_bpf.specs.Memory.{Setting, State};
 ghost use Rattle.bq_states.specs.Certainty.{Fact, Has, Certainty, CertaintyHolds};
-ghost use Rattle.bq_states.specs.Learnt.{HasLearnt, HoldsRight, IsLasting, IsLastingWord, IsSharper, DescribesBranch, Sharpens, SharpensBy};
-ghost use Rattle.bq_states.specs.Relations.{Relates};
+ghost use Rattle.bq_states.specs.Learnt.{HasLearnt, HoldsRight, IsLasting, IsLastingWord, IsSharper, DescribesBranch, LearnsRelation, Sharpens, SharpensBy};
 ghost use Rattle.bq_ranges.specs.Within.{Within};
 ghost use Rattle.bq_bpf.specs.declared.shape.MapShape.{MapShape};
 ghost use Rattle.bq_states.specs.AbstractStates.{Contains, Describes};
@@ -37,7 +36,7 @@ pub fn learn_branch(
 /// Learns how both operands are related, if the right one is a register.
 fn learn_relation(state: &mut AbstractState, dst: u8, src: Source, relation: Relation)
     requires { dst < REGISTERS }
-    ensures contains { (f : Setting) (s : State) (a : ℕ) → Contains f state.old s → s.register dst ≡ Some a → HoldsRight s src (Relates relation a) → Contains f state.new s }
+    ensures contains { LearnsRelation dst src relation state.old state.new }
     ensures has { (x : Fact) → Has x state.old → Has x state.new }
     ensures same { state.new.registers ≡ state.old.registers }
 {

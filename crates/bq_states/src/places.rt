@@ -3,8 +3,7 @@
 ghost use Rattle.std.specs.Prelude.{Some, ◌↔◌, ◌≡◌, ◌+◌, ◌^◌, ◌<◌, ◌≤◌, ℕ, IsTrue, length, IfSome, false, true, slice_get, slice_index_or, None};
 ghost use Rattle.bq_insn.specs.Slots.{byte_count};
 ghost use Rattle.bq_ranges.specs.Within.{Within};
-ghost use Rattle.bq_states.specs.Certainty.{Pointer, CertaintyHoldsAt};
-ghost use Rattle.bq_states.specs.AbstractStates.{bound_of, AreSet, Bounds, FindsBytes};
+ghost use Rattle.bq_states.specs.AbstractStates.{bound_of, AcceptsSetBytes, AreSet, Bounds, FindsBytes};
 ghost use Rattle.bq_states.specs.declared.abstract_state.ValueKind.TheVariants.{Stack};
 
 use crate::abstract_state::{AbstractState, ValueKind};
@@ -106,7 +105,7 @@ pub fn reads(
 ) -> bool
     requires { context < 2 ^ 16 }
     ensures finds { IsTrue result → FindsBytes shapes.now context state.now register (byte_count size) }
-    ensures accepts { (at : ℕ) → CertaintyHoldsAt (Pointer Stack at) state.now register → at + byte_count size ≤ STACK_SIZE → AreSet state.now.set at (at + byte_count size) → IsTrue result }
+    ensures accepts { AcceptsSetBytes state.now register (byte_count size) result }
 {
     let Some(base) = known(state, register) else {
         return false;
@@ -134,7 +133,7 @@ pub fn reads_value(
     requires context { context < 2 ^ 16 }
     requires count { count ≤ 256 }
     ensures finds { IsTrue result → FindsBytes shapes.now context state.now register count }
-    ensures accepts { (at : ℕ) → CertaintyHoldsAt (Pointer Stack at) state.now register → at + count ≤ STACK_SIZE → AreSet state.now.set at (at + count) → IsTrue result }
+    ensures accepts { AcceptsSetBytes state.now register count result }
 {
     let Some(base) = known(state, register) else {
         return false;
