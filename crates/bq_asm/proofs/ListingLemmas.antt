@@ -1,13 +1,13 @@
 -- The lines and the words of a listing are read again, so a listing assembles to its program.
 use Rattle.std.proofs.Common.{◌≡◌, ℕ, zero, suc, ◌+◌, ◌-◌, ◌^◌, ◌<◌, ◌≤◌, List, [], ◌∷◌, ◌++◌, length, take, map, get_or, refl, sym, ap, ◌∙◌, Bool, true, false, cond, arith, append_assoc, length-append, subst}
-use Rattle.std.specs.Prelude.{ℤ, pos, negsuc, FitsSigned, not, ◌&&◌, ◌||◌, ◌==◌, codes, slice_index, nat_le}
+use Rattle.std.specs.Prelude.{ℤ, pos, negsuc, FitsSigned, not, ◌&&◌, ◌||◌, ◌==◌, codes, slice_index, nat_le, nat_lt}
 use Rattle.std.specs.Int.{w16, w32}
 use Rattle.std.specs.List.{AllByRecursion, list_all, slice_split, before_first, position_or_len}
 use Rattle.std.specs.Map.{keys_of}
 use Rattle.std.specs.Fmt.{decimal, signed_decimal}
 use Rattle.std.specs.Str.Lines.{lines, lines_of_parts, strip_carriage_return}
 use Rattle.std.proofs.lemmas.Fmt.{decimal_is_IsNumeral}
-use Rattle.std.proofs.lemmas.Bool.{and_parts, not-true, leb-true, ne_eqb, eqb-false}
+use Rattle.std.proofs.lemmas.Bool.{and_parts, not-true, leb-true, lt-ltb, ne_eqb, eqb-false}
 use Rattle.std.proofs.lemmas.Int.{ints}
 use Rattle.std.proofs.lemmas.List.{take_all}
 use Rattle.std.proofs.lemmas.List.Elements.{All-from_recursion}
@@ -28,7 +28,7 @@ use Rattle.bq_insn.specs.declared.Insn.{Insn}
 use Rattle.bq_insn.specs.declared.Insn.TheVariants as insn
 use Rattle.bq_insn.specs.Slots.{slots_of}
 use Rattle.bq_insn.specs.Spelling.{is_insn, slot_count}
-use Rattle.bq_insn.specs.Laws.{AllFit}
+use Rattle.bq_insn.specs.Laws.{AllFit, Fits}
 use Rattle.bq_words.proofs.WordLemmas.{EndsWord, words-blank, words-word}
 use Rattle.bq_asm.specs.declared.mnemonic.Mnemonic.{Mnemonic}
 use Rattle.bq_asm.specs.declared.mnemonic.Mnemonic.TheVariants as name
@@ -43,17 +43,17 @@ use Rattle.bq_asm.proofs.DigitLemmas.{is_digit, list_all-append, list_all-weaker
 use Rattle.bq_asm.proofs.ListedWordsLemmas.{operands_good, listed_again}
 use Rattle.bq_asm.proofs.WellFormedLemmas.{IsInRange}
 
--- a byte that ends no line and begins no comment
-abbrev is_inner : ℕ → Bool
-is_inner b = not (b == 59) && (not (b == 10) && not (b == 13))
+-- an ASCII byte that ends no line
+abbrev pub is_line_byte : ℕ → Bool
+is_line_byte b = nat_lt b 128 && (not (b == 10) && not (b == 13))
+
+-- an ASCII byte that ends no line and begins no comment
+abbrev pub is_inner : ℕ → Bool
+is_inner b = not (b == 59) && is_line_byte b
 
 -- a byte of a word
 abbrev is_plain : ℕ → Bool
 is_plain b = not (is_blank b) && is_inner b
-
--- a byte of a word ends no line and begins no comment
-inner_from_plain : (b : ℕ) → is_plain b ≡ true → is_inner b ≡ true
-inner_from_plain b h = (and_parts (not (is_blank b)) (is_inner b) h).1
 
 -- digits, and so numbers in decimal, are bytes of words:
 digit_plain : (b : ℕ) → is_digit b ≡ true → is_plain b ≡ true
@@ -61,7 +61,8 @@ digit_plain b h =
     let low : 48 ≤ b = leb-true 48 b (and_parts (nat_le 48 b) (nat_le b 57) h).0 in
     let high : b ≤ 57 = leb-true b 57 (and_parts (nat_le 48 b) (nat_le b 57) h).1 in
     (λ i. not (ne_eqb b 32 (λ e. omega arith) i || (ne_eqb b 9 (λ e. omega arith) i || ne_eqb b 44 (λ e. omega arith) i))
-    && (not (ne_eqb b 59 (λ e. omega arith) i) && (not (ne_eqb b 10 (λ e. omega arith) i) && not (ne_eqb b 13 (λ e. omega arith) i))))
+    && (not (ne_eqb b 59 (λ e. omega arith) i)
+    && (lt-ltb b 128 (omega arith) i && (not (ne_eqb b 10 (λ e. omega arith) i) && not (ne_eqb b 13 (λ e. omega arith) i)))))
 
 decimal_plain : (n : ℕ) → n < 2 ^ 64 → list_all is_plain (decimal n) ≡ true
 decimal_plain n h = list_all-weaker is_digit is_plain digit_plain (decimal n) (decimal_digits n h)
@@ -218,10 +219,15 @@ words_of-body i h =
     (operands_end (operands_of i))
     ∙ ap (λ ws. mnemonic_word m ∷ ws) (words_operands (operands_of i) h)
 
--- a line of a listing has no comment, and no line ends in it
+-- the bytes of a word end no line and begin no comment
 plain_inner : (w : List ℕ) → list_all is_plain w ≡ true → list_all is_inner w ≡ true
-plain_inner w h = list_all-weaker is_plain is_inner inner_from_plain w h
+plain_inner w h = list_all-weaker is_plain is_inner (λ b k. (and_parts (not (is_blank b)) (is_inner b) k).1) w h
 
+-- the digits of a number end no line and begin no comment
+pub decimal_inner : (n : ℕ) → n < 2 ^ 64 → list_all is_inner (decimal n) ≡ true
+decimal_inner n h = plain_inner (decimal n) (decimal_plain n h)
+
+-- operands, after the first one and from the first on, end no line and begin no comment:
 after_inner : (os : List Operand) → AllByRecursion IsInRange os → list_all is_inner (after_first os) ≡ true
 after_inner [] h = refl
 after_inner (o ∷ os) h =
@@ -234,28 +240,43 @@ operands_inner (o ∷ os) h =
     list_all-append is_inner (operand_text o) (after_first os) (plain_inner (operand_text o) (operand_word o h.0).plain)
     (after_inner os h.1)
 
-body_inner : (i : Insn) → AllByRecursion IsInRange (operands_of i) → list_all is_inner (line_body i) ≡ true
-body_inner i h =
+-- the line of an instruction, before its end, ends no line and begins no comment
+pub body_inner : (i : Insn) → is_insn i ≡ true → Fits i → list_all is_inner (line_body i) ≡ true
+body_inner i h k =
     list_all-append is_inner (mnemonic_word (mnemonic_of i)) (operands_text (operands_of i))
-    (plain_inner (mnemonic_word (mnemonic_of i)) (name_plain (mnemonic_of i))) (operands_inner (operands_of i) h)
+    (plain_inner (mnemonic_word (mnemonic_of i)) (name_plain (mnemonic_of i)))
+    (operands_inner (operands_of i) (operands_good i h k))
 
--- no comment begins in a line of a listing, so that all of the line is read:
+-- an inner byte begins it
+pub body_begins : (i : Insn) → (b : ℕ) × (rest : List ℕ) × (line_body i ≡ b ∷ rest) × (is_inner b ≡ true)
+body_begins i =
+    let m = mnemonic_of i in
+    go (mnemonic_word m) (name_some m) (plain_inner (mnemonic_word m) (name_plain m))
+  where
+    go : (name : List ℕ) → 0 < length name → list_all is_inner name ≡ true
+        → (b : ℕ) × (rest : List ℕ) × (name ++ operands_text (operands_of i) ≡ b ∷ rest) × (is_inner b ≡ true)
+    go [] some h = absurd (omega arith)
+    go (b ∷ bs) some h = (b, bs ++ operands_text (operands_of i), refl, (and_parts (is_inner b) (list_all is_inner bs) h).0)
+
+-- a text in which no comment begins stays whole:
 no_comment : (bs : List ℕ) → list_all is_inner bs ≡ true → position_or_len is_comment bs ≡ length bs
 no_comment [] h = refl
 no_comment (b ∷ bs) h =
     let parts = and_parts (is_inner b) (list_all is_inner bs) h in
     let rest = no_comment bs parts.1 in
-    ap (λ t. cond t (1 + position_or_len is_comment bs) 0) (and_parts (not (b == 59)) (not (b == 10) && not (b == 13)) parts.0).0
+    ap (λ t. cond t (1 + position_or_len is_comment bs) 0) (and_parts (not (b == 59)) (is_line_byte b) parts.0).0
     ∙ (let sum : 1 + position_or_len is_comment bs ≡ length (b ∷ bs) = omega (arith, rest) in sum)
 
-without_comment : (bs : List ℕ) → list_all is_inner bs ≡ true → before_first is_comment bs ≡ bs
+-- what stands before the first comment of such a text is all of it
+pub without_comment : (bs : List ℕ) → list_all is_inner bs ≡ true → before_first is_comment bs ≡ bs
 without_comment bs h = ap (λ n. take n bs) (no_comment bs h) ∙ take_all (length bs) bs (omega arith)
 
 -- the instruction that a line says, by its words
-parsed_line-body : (i : Insn) → AllByRecursion IsInRange (operands_of i)
+parsed_line-body : (i : Insn) → is_insn i ≡ true → Fits i
     → parsed_line (line_body i) ≡ Instruction (mnemonic_word (mnemonic_of i)) (map operand_text (operands_of i))
-parsed_line-body i h =
-    ap (λ bs. line_of_words (words_between_blanks bs)) (without_comment (line_body i) (body_inner i h)) ∙ ap line_of_words (words_of-body i h) ∙ lone i
+parsed_line-body i h k =
+    ap (λ bs. line_of_words (words_between_blanks bs)) (without_comment (line_body i) (body_inner i h k))
+    ∙ ap line_of_words (words_of-body i (operands_good i h k)) ∙ lone i
   where
     lone : (i : Insn)
         → line_of_words (mnemonic_word (mnemonic_of i) ∷ map operand_text (operands_of i))
@@ -275,38 +296,42 @@ parsed_line-body i h =
     lone (insn.Call n) = refl
     lone insn.Exit = refl
 
--- a line of a listing has no line feed and no carriage return, by cases:
-no_feed : (bs : List ℕ) → list_all is_inner bs ≡ true → AllByRecursion (λ b. (b == 10) ≡ false) bs
+-- bytes that end no line and begin no comment end no line
+pub inner_line_bytes : (bs : List ℕ) → list_all is_inner bs ≡ true → list_all is_line_byte bs ≡ true
+inner_line_bytes bs h = list_all-weaker is_inner is_line_byte (λ b k. (and_parts (not (b == 59)) (is_line_byte b) k).1) bs h
+
+-- bytes that end no line have no line feed and no carriage return, by cases:
+no_feed : (bs : List ℕ) → list_all is_line_byte bs ≡ true → AllByRecursion (λ b. (b == 10) ≡ false) bs
 no_feed [] h = tt
 no_feed (b ∷ bs) h =
-    let parts = and_parts (is_inner b) (list_all is_inner bs) h in
-    let rest = (and_parts (not (b == 59)) (not (b == 10) && not (b == 13)) parts.0).1 in
+    let parts = and_parts (is_line_byte b) (list_all is_line_byte bs) h in
+    let rest = (and_parts (nat_lt b 128) (not (b == 10) && not (b == 13)) parts.0).1 in
     (not-true (b == 10) (and_parts (not (b == 10)) (not (b == 13)) rest).0, no_feed bs parts.1)
 
-no_return : (bs : List ℕ) (k : ℕ) → list_all is_inner bs ≡ true → get_or bs k 0 ≡ 13 → ⊥
+no_return : (bs : List ℕ) (k : ℕ) → list_all is_line_byte bs ≡ true → get_or bs k 0 ≡ 13 → ⊥
 no_return [] k h e = omega arith
 no_return (b ∷ bs) zero h e =
-    let parts = and_parts (is_inner b) (list_all is_inner bs) h in
-    let rest = (and_parts (not (b == 59)) (not (b == 10) && not (b == 13)) parts.0).1 in
+    let parts = and_parts (is_line_byte b) (list_all is_line_byte bs) h in
+    let rest = (and_parts (nat_lt b 128) (not (b == 10) && not (b == 13)) parts.0).1 in
     eqb-false b 13 (not-true (b == 13) (and_parts (not (b == 10)) (not (b == 13)) rest).1) e
-no_return (b ∷ bs) (suc k) h e = no_return bs k (and_parts (is_inner b) (list_all is_inner bs) h).1 e
+no_return (b ∷ bs) (suc k) h e = no_return bs k (and_parts (is_line_byte b) (list_all is_line_byte bs) h).1 e
 
 -- the first of some parts is a line, and the others are the lines after it
-pub parts_more : (line : List ℕ) (parts : List (List ℕ)) → 0 < length parts
+parts_more : (line : List ℕ) (parts : List (List ℕ)) → 0 < length parts
     → lines_of_parts (line ∷ parts) ≡ strip_carriage_return line ∷ lines_of_parts parts
 parts_more line [] h = absurd (omega arith)
 parts_more line (p ∷ parts) h = refl
 
--- a line of a listing, and the lines after it
-lines-body : (body rest : List ℕ) → list_all is_inner body ≡ true → lines (body ++ 10 ∷ rest) ≡ body ∷ lines rest
-lines-body body rest h =
+-- a line with its end, and the lines after it
+pub line_first : (line rest : List ℕ) → list_all is_line_byte line ≡ true → lines (line ++ 10 ∷ rest) ≡ line ∷ lines rest
+line_first line rest h =
     let feed = λ (b : ℕ). b == 10 in
     let more : 0 < length (slice_split feed rest) = omega (arith, length-slice_split feed rest) in
-    let kept : strip_carriage_return body ≡ body =
-    ap (λ t. cond t (take (length body - 1) body) body)
-    (ne_eqb (slice_index body (length body - 1)) 13 (no_return body (length body - 1) h)) in
-    ap lines_of_parts (slice_split_at feed body 10 rest (All-from_recursion (λ b. (b == 10) ≡ false) body (no_feed body h)) refl)
-    ∙ parts_more body (slice_split feed rest) more ∙ ap (λ b. b ∷ lines rest) kept
+    let kept : strip_carriage_return line ≡ line =
+    ap (λ t. cond t (take (length line - 1) line) line)
+    (ne_eqb (slice_index line (length line - 1)) 13 (no_return line (length line - 1) h)) in
+    ap lines_of_parts (slice_split_at feed line 10 rest (All-from_recursion (λ b. (b == 10) ≡ false) line (no_feed line h)) refl)
+    ∙ parts_more line (slice_split feed rest) more ∙ ap (λ b. b ∷ lines rest) kept
 
 -- what the line of an instruction in a listing says: its first word and the texts of its operands
 abbrev listed : Insn → Line
@@ -317,15 +342,16 @@ lines_of-listing : (insns : List Insn) → list_all is_insn insns ≡ true → A
 lines_of-listing [] h k = refl
 lines_of-listing (i ∷ insns) h k =
     let parts = and_parts (is_insn i) (list_all is_insn insns) h in
-    let good = operands_good i parts.0 k.0 in
     let m = mnemonic_word (mnemonic_of i) in
     let os = operands_text (operands_of i) in
     let rest = listing_text insns in
     let regrouped : text_of_instruction i ++ rest ≡ line_body i ++ 10 ∷ rest =
     append_assoc m (os ++ codes "\n") rest ∙ ap (λ bs. m ++ bs) (append_assoc os (codes "\n") rest)
     ∙ sym (append_assoc m os (10 ∷ rest)) in
-    ap (λ bs. map parsed_line (lines bs)) regrouped ∙ ap (map parsed_line) (lines-body (line_body i) rest (body_inner i good))
-    ∙ (λ n. parsed_line-body i good n ∷ lines_of-listing insns parts.1 k.1 n)
+    let inner = body_inner i parts.0 k.0 in
+    ap (λ bs. map parsed_line (lines bs)) regrouped
+    ∙ ap (map parsed_line) (line_first (line_body i) rest (inner_line_bytes (line_body i) inner))
+    ∙ (λ n. parsed_line-body i parts.0 k.0 n ∷ lines_of-listing insns parts.1 k.1 n)
 
 -- a listing sets no label
 no_places : (slot : ℕ) (insns : List Insn) → places_from slot (map listed insns) ≡ []

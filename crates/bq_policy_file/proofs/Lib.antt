@@ -2,7 +2,6 @@ pub mod CheckLemmas
 pub mod NamedShapesLemmas
 pub mod OneAnswerLemmas
 pub mod ShapesTextLemmas
-pub mod BodyLemmas
 pub mod LineLemmas
 pub mod ShapeLemmas
 pub mod MarkLemmas

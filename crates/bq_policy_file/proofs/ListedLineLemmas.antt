@@ -10,8 +10,8 @@ use Rattle.bq_asm.specs.Lines.{parsed_line, lines_of}
 use Rattle.bq_asm.specs.Names.{mnemonic_word}
 use Rattle.bq_asm.specs.Text.{listing_text, mnemonic_of, operands_of, operands_text, line_body}
 use Rattle.std.specs.Str.Lines.{lines}
+use Rattle.bq_asm.proofs.ListingLemmas.{is_line_byte, is_inner, body_inner, body_begins, inner_line_bytes}
 use Rattle.bq_policy_file.specs.Marks.{mark_words}
-use Rattle.bq_policy_file.proofs.BodyLemmas.{is_clean, is_inner, body_begins, body_inner, inner_clean}
 use Rattle.bq_policy_file.proofs.LineLemmas.{AreClean, ended, lines_ended}
 use Rattle.bq_policy_file.proofs.MarkLemmas.{AreNoMarks}
 use Rattle.bq_policy_file.proofs.ReadBackLemmas.{AreLines}
@@ -19,14 +19,14 @@ use Rattle.bq_policy_file.proofs.ReadBackLemmas.{AreLines}
 -- a line that begins with an inner byte is no mark
 no_mark : (b : ℕ) (rest : List ℕ) → is_inner b ≡ true → mark_words (b ∷ rest) ≡ None
 no_mark b rest h =
-    let other : (b == 59) ≡ false = not-true (b == 59) (and_parts (not (b == 59)) (is_clean b) h).0 in
+    let other : (b == 59) ≡ false = not-true (b == 59) (and_parts (not (b == 59)) (is_line_byte b) h).0 in
     let differs : (59 == b) ≡ false = ne_eqb 59 b (λ e. eqb-false b 59 other (sym e)) in
     rw differs refl
 
 -- the line of an instruction, with something behind it
-pub body_no_mark : (i : Insn) (behind : List ℕ) → is_insn i ≡ true → mark_words (line_body i ++ behind) ≡ None
-body_no_mark i behind h =
-    let begins = body_begins i h in
+pub body_no_mark : (i : Insn) (behind : List ℕ) → mark_words (line_body i ++ behind) ≡ None
+body_no_mark i behind =
+    let begins = body_begins i in
     ap (λ bs. mark_words (bs ++ behind)) begins.2 ∙ no_mark begins.0 (begins.1 ++ behind) begins.3
 
 -- a listing is these lines
@@ -41,14 +41,13 @@ bodies_clean : (insns : List Insn) → list_all is_insn insns ≡ true → AllFi
 bodies_clean [] h k = tt
 bodies_clean (i ∷ insns) h k =
     let parts = and_parts (is_insn i) (list_all is_insn insns) h in
-    (inner_clean (line_body i) (body_inner i parts.0 k.0), bodies_clean insns parts.1 k.1)
+    (inner_line_bytes (line_body i) (body_inner i parts.0 k.0), bodies_clean insns parts.1 k.1)
 
-bodies_no_marks : (insns : List Insn) → list_all is_insn insns ≡ true → AreNoMarks (map line_body insns)
-bodies_no_marks [] h = tt
-bodies_no_marks (i ∷ insns) h =
-    let parts = and_parts (is_insn i) (list_all is_insn insns) h in
-    let begins = body_begins i parts.0 in
-    (ap mark_words begins.2 ∙ no_mark begins.0 begins.1 begins.3, bodies_no_marks insns parts.1)
+bodies_no_marks : (insns : List Insn) → AreNoMarks (map line_body insns)
+bodies_no_marks [] = tt
+bodies_no_marks (i ∷ insns) =
+    let begins = body_begins i in
+    (ap mark_words begins.2 ∙ no_mark begins.0 begins.1 begins.3, bodies_no_marks insns)
 
 -- the lines of a listing say what the texts of its instructions say
 pub bodies_parsed : (insns : List Insn) → list_all is_insn insns ≡ true → AllFit insns
@@ -61,6 +60,6 @@ bodies_parsed insns h k =
 pub plain_lines : (insns : List Insn) → list_all is_insn insns ≡ true → AllFit insns → AreLines insns (map line_body insns)
 plain_lines insns h k = record {
   clean = bodies_clean insns h k;
-  no_marks = bodies_no_marks insns h;
+  no_marks = bodies_no_marks insns;
   stated = sym (bodies_parsed insns h k);
 }

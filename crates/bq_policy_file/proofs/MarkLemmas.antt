@@ -28,7 +28,7 @@ use Rattle.bq_policy_file.specs.Heads.{StatesHead}
 use Rattle.bq_policy_file.specs.Marks.{key_word, mark_words}
 use Rattle.bq_policy_file.proofs.HeadLemmas.{states_nothing, states_mark, states_no_mark}
 use Rattle.bq_policy_file.specs.MarkLines.{AreMarks, shape_text, more_maps, maps_mark, format_mark}
-use Rattle.bq_policy_file.proofs.BodyLemmas.{is_clean}
+use Rattle.bq_asm.proofs.ListingLemmas.{is_line_byte}
 use Rattle.bq_policy_file.proofs.LineLemmas.{AreClean, ended}
 use Rattle.bq_policy_file.proofs.ShapeLemmas.{names_shapes, shapes_text}
 
@@ -81,7 +81,7 @@ marks_ended p marks are =
 
 -- a byte of a word of a line
 abbrev is_plain : ℕ → Bool
-is_plain b = not (is_space b) && is_clean b
+is_plain b = not (is_space b) && is_line_byte b
 
 -- digits, and so numbers, are such bytes:
 digit_plain : (b : ℕ) → is_digit b ≡ true → is_plain b ≡ true
@@ -115,10 +115,10 @@ no_blank : (w : List ℕ) → list_all is_plain w ≡ true → AllByRecursion (�
 no_blank [] h = tt
 no_blank (b ∷ w) h =
     let parts = and_parts (is_plain b) (list_all is_plain w) h in
-    (not-true (is_space b) (and_parts (not (is_space b)) (is_clean b) parts.0).0, no_blank w parts.1)
+    (not-true (is_space b) (and_parts (not (is_space b)) (is_line_byte b) parts.0).0, no_blank w parts.1)
 
 -- the line of a hook is clean, and so are those of maps:
-hook_clean : (h : Hook) → list_all is_clean (hook_line h) ≡ true
+hook_clean : (h : Hook) → list_all is_line_byte (hook_line h) ≡ true
 hook_clean Place = refl
 hook_clean Preempt = refl
 hook_clean Pull = refl
@@ -126,7 +126,7 @@ hook_clean Pull = refl
 maps_clean : (shapes : List MapShape) → AreClean (maps_lines shapes)
 maps_clean [] = tt
 maps_clean (first ∷ rest) = (
-  list_all-weaker is_plain is_clean (λ b k. (and_parts (not (is_space b)) (is_clean b) k).1) (shapes_text first rest)
+  list_all-weaker is_plain is_line_byte (λ b k. (and_parts (not (is_space b)) (is_line_byte b) k).1) (shapes_text first rest)
       (text_plain first rest),
   tt,
 )

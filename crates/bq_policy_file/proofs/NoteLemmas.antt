@@ -15,8 +15,8 @@ use Rattle.bq_words.proofs.WordLemmas.{words-blank}
 use Rattle.bq_asm.specs.Lines.{is_blank, is_comment, line_of_words, parsed_line, words_between_blanks}
 use Rattle.bq_asm.specs.Text.{line_body}
 use Rattle.bq_asm.proofs.DigitLemmas.{list_all-append}
+use Rattle.bq_asm.proofs.ListingLemmas.{is_line_byte, is_inner, decimal_inner, body_inner, inner_line_bytes, without_comment}
 use Rattle.bq_policy_file.specs.Listed.{blanks_to, noted_line, noted_text}
-use Rattle.bq_policy_file.proofs.BodyLemmas.{is_clean, is_inner, body_inner, decimal_inner, inner_clean}
 use Rattle.bq_policy_file.proofs.LineLemmas.{AreClean, ended}
 use Rattle.bq_policy_file.proofs.ListedLineLemmas.{bodies_parsed, body_no_mark}
 use Rattle.bq_policy_file.proofs.MarkLemmas.{AreNoMarks}
@@ -70,21 +70,11 @@ before_note : (xs ys : List ℕ) → list_all is_inner xs ≡ true → before_fi
 before_note [] ys h = refl
 before_note (x ∷ xs) ys h =
     let parts = and_parts (is_inner x) (list_all is_inner xs) h in
-    let other = (and_parts (not (x == 59)) (is_clean x) parts.0).0 in
+    let other = (and_parts (not (x == 59)) (is_line_byte x) parts.0).0 in
     let n = position_or_len is_comment (xs ++ 59 ∷ ys) in
     let one : 1 + n ≡ suc n = omega arith in
     ap (λ t. take (cond t (1 + n) 0) (x ∷ (xs ++ 59 ∷ ys))) other ∙ ap (λ k. take k (x ∷ (xs ++ 59 ∷ ys))) one
     ∙ ap (λ bs. x ∷ bs) (before_note xs ys parts.1)
-
--- a text in which no comment begins stays whole
-no_note : (xs : List ℕ) → list_all is_inner xs ≡ true → before_first is_comment xs ≡ xs
-no_note [] h = refl
-no_note (x ∷ xs) h =
-    let parts = and_parts (is_inner x) (list_all is_inner xs) h in
-    let other = (and_parts (not (x == 59)) (is_clean x) parts.0).0 in
-    let n = position_or_len is_comment xs in
-    let one : 1 + n ≡ suc n = omega arith in
-    ap (λ t. take (cond t (1 + n) 0) (x ∷ xs)) other ∙ ap (λ k. take k (x ∷ xs)) one ∙ ap (λ bs. x ∷ bs) (no_note xs parts.1)
 
 -- blanks end no line and begin no comment
 blanks_inner : (n : ℕ) → list_all is_inner (replicate n 32) ≡ true
@@ -99,22 +89,22 @@ noted_parses body note n h =
     let before : before_first is_comment (body ++ (blanks ++ 59 ∷ note)) ≡ body ++ blanks =
     ap (before_first is_comment) (sym (append_assoc body blanks (59 ∷ note)))
     ∙ before_note (body ++ blanks) note (list_all-append is_inner body blanks h (blanks_inner n)) in
-    ap (λ bs. line_of_words (words_between_blanks bs)) before ∙ ap line_of_words (words_blanks body n) ∙ ap (λ bs. line_of_words (words_between_blanks bs)) (sym (no_note body h))
+    ap (λ bs. line_of_words (words_between_blanks bs)) before ∙ ap line_of_words (words_blanks body n) ∙ ap (λ bs. line_of_words (words_between_blanks bs)) (sym (without_comment body h))
 
 -- the byte at a place of a clean text is clean, and the hex of some bytes is:
-index_clean : (t : List ℕ) (k : ℕ) → list_all is_clean t ≡ true → is_clean (slice_index t k) ≡ true
+index_clean : (t : List ℕ) (k : ℕ) → list_all is_line_byte t ≡ true → is_line_byte (slice_index t k) ≡ true
 index_clean [] k h = refl
-index_clean (b ∷ t) zero h = (and_parts (is_clean b) (list_all is_clean t) h).0
-index_clean (b ∷ t) (suc k) h = index_clean t k (and_parts (is_clean b) (list_all is_clean t) h).1
+index_clean (b ∷ t) zero h = (and_parts (is_line_byte b) (list_all is_line_byte t) h).0
+index_clean (b ∷ t) (suc k) h = index_clean t k (and_parts (is_line_byte b) (list_all is_line_byte t) h).1
 
-hex_clean : (bytes : List ℕ) → list_all is_clean (encode_lower bytes) ≡ true
+hex_clean : (bytes : List ℕ) → list_all is_line_byte (encode_lower bytes) ≡ true
 unfolding encode_with
 hex_clean [] = refl
 hex_clean (b ∷ bytes) =
-    and_from (is_clean (slice_index lower_digits (b / 16)))
-    (is_clean (slice_index lower_digits (b % 16)) && list_all is_clean (encode_lower bytes))
+    and_from (is_line_byte (slice_index lower_digits (b / 16)))
+    (is_line_byte (slice_index lower_digits (b % 16)) && list_all is_line_byte (encode_lower bytes))
     (index_clean lower_digits (b / 16) refl)
-    (and_from (is_clean (slice_index lower_digits (b % 16))) (list_all is_clean (encode_lower bytes))
+    (and_from (is_line_byte (slice_index lower_digits (b % 16))) (list_all is_line_byte (encode_lower bytes))
     (index_clean lower_digits (b % 16) refl) (hex_clean bytes))
 
 -- the comment on an instruction: its slot, and its bytes
@@ -122,13 +112,13 @@ abbrev note_of : ℕ → Insn → List ℕ
 note_of slot i = codes "; " ++ (blanks_to 4 (decimal slot) ++ (decimal slot ++ (codes "  " ++ encode_lower (insn_bytes i))))
 
 -- the comment on an instruction is clean
-note_clean : (slot : ℕ) (i : Insn) → slot < 2 ^ 64 → list_all is_clean (note_of slot i) ≡ true
+note_clean : (slot : ℕ) (i : Insn) → slot < 2 ^ 64 → list_all is_line_byte (note_of slot i) ≡ true
 note_clean slot i h =
     let blanks = blanks_to 4 (decimal slot) in
     let hex = encode_lower (insn_bytes i) in
-    list_all-append is_clean blanks (decimal slot ++ (codes "  " ++ hex))
-    (inner_clean blanks (blanks_inner (4 - length (decimal slot))))
-    (list_all-append is_clean (decimal slot) (codes "  " ++ hex) (inner_clean (decimal slot) (decimal_inner slot h))
+    list_all-append is_line_byte blanks (decimal slot ++ (codes "  " ++ hex))
+    (inner_line_bytes blanks (blanks_inner (4 - length (decimal slot))))
+    (list_all-append is_line_byte (decimal slot) (codes "  " ++ hex) (inner_line_bytes (decimal slot) (decimal_inner slot h))
     (hex_clean (insn_bytes i)))
 
 -- the lines, without their ends
@@ -173,17 +163,16 @@ notes_clean slot (i ∷ insns) r h k =
     let parts = and_parts (is_insn i) (list_all is_insn insns) h in
     let body = line_body i in
     let blanks = blanks_to 32 body in (
-      list_all-append is_clean body (blanks ++ note_of slot i) (inner_clean body (body_inner i parts.0 k.0))
-          (list_all-append is_clean blanks (note_of slot i) (inner_clean blanks (blanks_inner (32 - length body)))
+      list_all-append is_line_byte body (blanks ++ note_of slot i) (inner_line_bytes body (body_inner i parts.0 k.0))
+          (list_all-append is_line_byte blanks (note_of slot i) (inner_line_bytes blanks (blanks_inner (32 - length body)))
           (note_clean slot i (omega (arith, r)))),
       notes_clean (slot + slots_of i) insns (later_room slot i insns r) parts.1 k.1,
     )
 
-notes_no_marks : (slot : ℕ) (insns : List Insn) → list_all is_insn insns ≡ true → AreNoMarks (noted_lines slot insns)
-notes_no_marks slot [] h = tt
-notes_no_marks slot (i ∷ insns) h =
-    let parts = and_parts (is_insn i) (list_all is_insn insns) h in
-    (body_no_mark i (blanks_to 32 (line_body i) ++ note_of slot i) parts.0, notes_no_marks (slot + slots_of i) insns parts.1)
+notes_no_marks : (slot : ℕ) (insns : List Insn) → AreNoMarks (noted_lines slot insns)
+notes_no_marks slot [] = tt
+notes_no_marks slot (i ∷ insns) =
+    (body_no_mark i (blanks_to 32 (line_body i) ++ note_of slot i), notes_no_marks (slot + slots_of i) insns)
 
 notes_parsed : (slot : ℕ) (insns : List Insn) → list_all is_insn insns ≡ true → AllFit insns
     → map parsed_line (noted_lines slot insns) ≡ map parsed_line (map line_body insns)
@@ -200,6 +189,6 @@ pub noted_are : (insns : List Insn) → slot_count insns ≤ 4096 → list_all i
     → AreLines insns (noted_lines 0 insns)
 noted_are insns few h k = record {
   clean = notes_clean 0 insns (omega (arith, few)) h k;
-  no_marks = notes_no_marks 0 insns h;
+  no_marks = notes_no_marks 0 insns;
   stated = notes_parsed 0 insns h k ∙ sym (bodies_parsed insns h k);
 }

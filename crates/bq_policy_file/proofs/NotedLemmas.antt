@@ -12,7 +12,7 @@ use Rattle.bq_asm.specs.Names.{mnemonic_word}
 use Rattle.bq_asm.specs.Text.{listing_text, mnemonic_of, operands_of, operands_text, line_body}
 use Rattle.bq_policy_file.specs.Listed.{is_ascii, noted_line, noted_text}
 use Rattle.bq_asm.proofs.DigitLemmas.{list_all-weaker}
-use Rattle.bq_policy_file.proofs.BodyLemmas.{body_inner, is_clean, is_inner}
+use Rattle.bq_asm.proofs.ListingLemmas.{is_line_byte, is_inner, body_inner}
 
 -- a listing of one instruction is its line
 pub one_line : (i : Insn) → listing_text (i ∷ []) ≡ line_body i ++ 10 ∷ []
@@ -47,7 +47,7 @@ fine_at (i ∷ insns) (suc k) d l h fit = fine_at insns k d (omega arith) (and_p
 pub body_ascii : (i : Insn) → (is_insn i ≡ true) × Fits i → list_all is_ascii (line_body i) ≡ true
 body_ascii i h =
     list_all-weaker is_inner is_ascii
-    (λ b k. (and_parts (is_ascii b) (not (b == 10) && not (b == 13)) (and_parts (not (b == 59)) (is_clean b) k).1).0)
+    (λ b k. (and_parts (is_ascii b) (not (b == 10) && not (b == 13)) (and_parts (not (b == 59)) (is_line_byte b) k).1).0)
     (line_body i) (body_inner i h.0 h.1)
 
 -- what is reported after one instruction more
