@@ -88,29 +88,26 @@ fn machine_words(operands: &[u8]) -> Option<(DisciplineName, ProcessorCount)>
 }
 
 /// A task, its nice value, its mask and its slice.
-fn admit_words(operands: &[u8]) -> Option<(u16, (i8, (u64, u64)))>
-    ensures { option_map (λ w. (w.0, w.1.0, w.1.1.0, w.1.1.1)) result ≡ admit_words (words operands.now) }
+fn admit_words(operands: &[u8]) -> Option<(u16, i8, u64, u64)>
+    ensures { result ≡ admit_words (words operands.now) }
 {
-    match four_words(operands) {
-        Some((first, second, third, fourth)) => {
-            let mask_and_slice = quantities::mask(third).zip(quantities::decimal(fourth));
-            quantities::task(first).zip(quantities::nice(second).zip(mask_and_slice))
-        }
-        None => None,
-    }
+    let (first, second, third, fourth) = four_words(operands)?;
+    let task = quantities::task(first)?;
+    let nice = quantities::nice(second)?;
+    let mask = quantities::mask(third)?;
+    let slice = quantities::decimal(fourth)?;
+    Some((task, nice, mask, slice))
 }
 
 /// A processor, a generation, a hook, and the word that spells an image.
-fn install_words(operands: &[u8]) -> Option<(u8, (u64, (Hook, &[u8])))>
-    ensures { option_map (λ w. (w.0, w.1.0, w.1.1.0, w.1.1.1.now)) result ≡ install_words (words operands.now) }
+fn install_words(operands: &[u8]) -> Option<(u8, u64, Hook, &[u8])>
+    ensures { option_map (λ w. (w.0, w.1, w.2, w.3.now)) result ≡ install_words (words operands.now) }
 {
-    match four_words(operands) {
-        Some((first, second, third, image)) => {
-            let hook_and_image = Hook::of_word(third).zip(Some(image));
-            quantities::processor(first).zip(quantities::decimal(second).zip(hook_and_image))
-        }
-        None => None,
-    }
+    let (first, second, third, image) = four_words(operands)?;
+    let processor = quantities::processor(first)?;
+    let generation = quantities::decimal(second)?;
+    let hook = Hook::of_word(third)?;
+    Some((processor, generation, hook, image))
 }
 
 /// A task.
@@ -166,17 +163,14 @@ fn wake_words(operands: &[u8]) -> Option<(u8, u16, u64)>
 }
 
 /// Two processors and a clock reading.
-fn pull_words(operands: &[u8]) -> Option<(u8, (u8, u64))>
-    ensures { option_map (λ w. (w.0, w.1.0, w.1.1)) result ≡ pull_words (words operands.now) }
+fn pull_words(operands: &[u8]) -> Option<(u8, u8, u64)>
+    ensures { result ≡ pull_words (words operands.now) }
 {
-    match three_words(operands) {
-        Some((first, second, third)) => {
-            quantities::processor(first).zip(quantities::processor(second).zip(quantities::decimal(
-                third,
-            )))
-        }
-        None => None,
-    }
+    let (first, second, third) = three_words(operands)?;
+    let processor = quantities::processor(first)?;
+    let from = quantities::processor(second)?;
+    let now = quantities::decimal(third)?;
+    Some((processor, from, now))
 }
 
 /// What the words after `machine` say.
@@ -194,7 +188,7 @@ fn admit(operands: &[u8]) -> LineReading<'_>
     ensures { result ≡ reading_of_command (admit_command (words operands.now)) }
 {
     match admit_words(operands) {
-        Some((task, (nice, (mask, slice)))) => LineReading::Asks(LineCommand::Does(Event::Admit {
+        Some((task, nice, mask, slice)) => LineReading::Asks(LineCommand::Does(Event::Admit {
             task,
             nice,
             mask,
@@ -228,7 +222,7 @@ fn draw(operands: &[u8]) -> LineReading<'_>
 fn install(operands: &[u8]) -> LineReading<'_>
     ensures { result ≡ reading_of_command (install_command (words operands.now)) }
 {
-    let Some((processor, (generation, (hook, image)))) = install_words(operands) else {
+    let Some((processor, generation, hook, image)) = install_words(operands) else {
         return LineReading::Bad;
     };
     if image == b"none".as_slice() {
@@ -329,7 +323,7 @@ fn pull(operands: &[u8]) -> LineReading<'_>
     ensures { result ≡ reading_of_command (pull_command (words operands.now)) }
 {
     match pull_words(operands) {
-        Some((processor, (from, now))) => LineReading::Asks(LineCommand::Does(Event::Pull {
+        Some((processor, from, now)) => LineReading::Asks(LineCommand::Does(Event::Pull {
             processor,
             from,
             now,
