@@ -9,7 +9,7 @@ use crate::schedule::Schedule;
 use bq_hooks::Hook;
 
 impl Schedule {
-    /// Counts a decision of a processor's hook.
+    /// Counts a decision of a processor's hook, if the processor exists.
     pub(crate) fn ask(&mut self, processor: u8, decision: &Decision)
         ensures { self.new ≡ figures_asked processor decision.now self.old }
     {
@@ -20,7 +20,7 @@ impl Schedule {
 }
 
 impl ProcessorFigures {
-    /// Counts a decision of a hook.
+    /// Counts a decision of one of the processor's hooks.
     fn ask(&mut self, decision: &Decision)
         ensures { self.new ≡ processor_asked self.old decision.now decision.now.hook }
     {
@@ -43,7 +43,7 @@ impl HookFigures {
     }
 }
 
-/// A count, one higher if something holds.
+/// Returns a count, one higher if something holds. It stops at its greatest value.
 pub(crate) fn count_if(count: u64, holds: bool) -> u64
     ensures { result ≡ saturating_sum count (if holds then 1 else 0) }
 {

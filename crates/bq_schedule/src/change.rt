@@ -31,7 +31,7 @@ pub struct Change {
 impl Change {
     ghost use Rattle.bq_schedule.specs.Steps.{nothing};
 
-    /// The change by an event that changes nothing.
+    /// Returns the change by an event that changes nothing.
     pub fn nothing() -> Change
         ensures { result ≡ nothing }
     {
@@ -72,21 +72,21 @@ pub struct Decision {
 impl Decision {
     ghost use Rattle.bq_schedule.specs.Steps.{was_asked, was_overruled};
 
-    /// The decision of a hook: who made it, and how many steps a policy took.
+    /// Returns the decision of a hook: who made it, and how many steps a policy took.
     pub(crate) fn new(hook: Hook, by: By, steps: u32) -> Decision
         ensures { result ≡ record { hook = hook; by = by; steps = steps } }
     {
         Decision { hook, by, steps }
     }
 
-    /// Whether a policy was asked: it took steps, or it decided.
+    /// Tells whether a policy was asked: it took steps, or it decided.
     pub fn was_asked(&self) -> bool
         ensures { result ≡ was_asked self.now }
     {
         self.by == By::Policy || self.steps > 0
     }
 
-    /// Whether a policy was asked and the discipline decided nonetheless: the policy's answer is not permitted.
+    /// Tells whether a policy was asked and the discipline decided nonetheless: the policy's answer is not permitted.
     pub fn was_overruled(&self) -> bool
         ensures { result ≡ was_overruled self.now }
     {
@@ -136,7 +136,7 @@ pub struct Start {
 impl Start {
     ghost use Rattle.bq_schedule.specs.Running.{has_migrated};
 
-    /// Whether the task ran at another processor before.
+    /// Tells whether the task ran at another processor before.
     pub fn has_migrated(&self) -> bool
         ensures { result ≡ has_migrated self.now }
     {

@@ -52,7 +52,7 @@ pub struct TaskFigures {
 impl TaskFigures {
     ghost use Rattle.bq_schedule.specs.Figures.{unknown};
 
-    /// The figures of an id that was never admitted.
+    /// Returns the figures of an id that was never admitted.
     pub fn new() -> TaskFigures
         ensures { result ≡ unknown }
     {
@@ -116,7 +116,7 @@ impl ProcessorFigures {
     ghost use Rattle.bq_schedule.specs.Figures.{unread};
     ghost use Rattle.bq_schedule.specs.Observed.{idle_in};
 
-    /// The figures of a processor before anything happens there.
+    /// Returns the figures of a processor before anything happens there.
     pub fn new() -> ProcessorFigures
         ensures { result ≡ unread }
     {
@@ -138,7 +138,7 @@ impl ProcessorFigures {
         }
     }
 
-    /// For how much of the schedule's observed time nothing ran here, in nanoseconds.
+    /// Returns for how much of the schedule's observed time nothing ran here. Both times are in nanoseconds.
     pub fn idle(&self, observed: u64) -> u64
         ensures { result ≡ idle_in observed self.now }
     {
@@ -160,7 +160,7 @@ pub struct HookFigures {
 impl HookFigures {
     ghost use Rattle.bq_schedule.specs.Figures.{unasked_hook};
 
-    /// The figures of a hook before anything is decided there.
+    /// Returns the figures of a hook before anything is decided there.
     pub fn new() -> HookFigures
         ensures { result ≡ unasked_hook }
     {

@@ -22,7 +22,7 @@ impl Model for Latencies {
 }
 
 impl Latencies {
-    /// No latencies yet. Takes no memory until one is pushed.
+    /// Returns an empty list of latencies. Takes no memory until one is pushed.
     pub fn new(alloc: Global) -> Latencies
         ensures { result ≡ [] }
     {
@@ -40,8 +40,8 @@ impl Latencies {
         Ok(())
     }
 
-    /// The least latency that at least this many percent of all latencies do not exceed, by nearest rank. The greatest if `percent`
-    /// is above 100. `None` if there are none. Sorts the latencies.
+    /// Sorts the latencies, and returns the least one that at least this many percent of all do not exceed, by nearest rank. Returns
+    /// the greatest if `percent` is above 100, and `None` if there are no latencies.
     pub fn percentile(&mut self, percent: u8) -> Option<u64>
         ensures none { IsNone result ↔ (self.old ≡ []) }
         ensures value { IfSome result (λ v. v ≡ slice_index self.new (rank percent (length self.new))) }
@@ -60,7 +60,7 @@ impl Latencies {
         self.values.sort_unstable();
     }
 
-    /// The latency at the place of a percentile, in the current order. `None` if there are none.
+    /// Returns the latency at the place of a percentile, in the current order. `None` if there are no latencies.
     pub(crate) fn at_rank(&self, percent: u8) -> Option<u64>
         ensures { result ≡ slice_get self.now (rank percent (length self.now)) }
     {
@@ -72,7 +72,7 @@ impl Latencies {
     }
 }
 
-/// The place of a percentile among this many sorted numbers. There must be at least one.
+/// Returns the place of a percentile among this many sorted numbers. There must be at least one.
 fn rank(percent: u8, count: usize) -> usize
     requires { 0 < count }
     ensures place { result ≡ rank percent count }

@@ -10,7 +10,7 @@ use crate::slice::Slice;
 use bq_disc::clock::LATEST;
 
 impl Schedule {
-    /// The clock of a processor is read. Gives the reading, the slice that is charged, and the run that ends.
+    /// Reads the clock of a processor. Returns the reading, the slice that is charged, and the run that ends.
     pub(crate) fn read(
         &mut self,
         processor: u8,
@@ -36,7 +36,7 @@ impl Schedule {
         (reading, slice, run)
     }
 
-    /// Adds a slice to the time of its task.
+    /// Adds the length of a slice, if there is one, to the time of its task.
     fn charge(&mut self, slice: Option<Slice>)
         ensures { self.new ≡ with_charged self.old slice }
     {
@@ -50,14 +50,14 @@ impl Schedule {
 }
 
 impl Slice {
-    /// How long the slice is, in nanoseconds.
+    /// Returns how long the slice is, in nanoseconds.
     pub fn length(&self) -> u64
         ensures { result ≡ slice_length (Some self.now) }
     {
         self.to.saturating_sub(self.from)
     }
 
-    /// Whether `next` continues this slice: it is of the same task, and begins where this one ends.
+    /// Tells whether `next` continues this slice: it is of the same task, and begins where this one ends.
     fn goes_on(&self, next: &Slice) -> bool
         ensures { result ≡ continues_run self.now next.now }
     {
@@ -66,7 +66,7 @@ impl Slice {
 }
 
 impl TaskFigures {
-    /// Adds this length to the time of the task.
+    /// Adds this length, in nanoseconds, to the time of the task.
     fn charge(&mut self, length: u64)
         ensures { self.new ≡ task_charged self.old length }
     {
@@ -75,7 +75,7 @@ impl TaskFigures {
 }
 
 impl ProcessorFigures {
-    /// The reading of the clock, as it counts.
+    /// Returns the reading of the clock, as it counts.
     fn reading(&self, processor: u8, now: u64) -> ClockReading
         ensures { result ≡ reading_at processor self.now now }
     {
@@ -87,7 +87,7 @@ impl ProcessorFigures {
         }
     }
 
-    /// The clock comes to a reading, and a slice is charged, if there is one.
+    /// Sets the clock to a reading, and charges a slice, if there is one: shares its time out among the runnable tasks.
     fn pass(&mut self, to: u64, slice: Option<Slice>)
         ensures { self.new ≡ passed self.old to slice }
     {
@@ -106,7 +106,7 @@ impl ProcessorFigures {
     }
 }
 
-/// The slice of the running task from one reading to another. `None` if no task runs, or if the slice would be empty.
+/// Returns the slice of the running task from one reading to another. `None` if no task runs, or if the slice would be empty.
 fn slice_between(processor: u8, from: u64, to: u64, running: Option<Start>) -> Option<Slice>
     ensures { result ≡ slice_between processor from to running }
 {
@@ -121,7 +121,7 @@ fn slice_between(processor: u8, from: u64, to: u64, running: Option<Start>) -> O
     }
 }
 
-/// How long a slice is, in nanoseconds; 0 if there is no slice.
+/// Returns how long a slice is, in nanoseconds; 0 if there is no slice.
 fn length_of(slice: Option<Slice>) -> u64
     ensures { result ≡ slice_length slice }
 {
@@ -131,7 +131,7 @@ fn length_of(slice: Option<Slice>) -> u64
     }
 }
 
-/// The last run, after another slice: the slice continues it, or begins a new one.
+/// Returns the last run, after another slice: the slice continues it, or begins a new one.
 fn joined_run(run: Option<Slice>, slice: Option<Slice>) -> Option<Slice>
     ensures { result ≡ joined_run run slice }
 {
@@ -145,7 +145,7 @@ fn joined_run(run: Option<Slice>, slice: Option<Slice>) -> Option<Slice>
     }
 }
 
-/// The run that ends because the next slice does not continue it.
+/// Returns the run that ends because the next slice does not continue it.
 fn ended_run(run: Option<Slice>, slice: Option<Slice>) -> Option<Slice>
     ensures { result ≡ ended_run run slice }
 {

@@ -35,7 +35,7 @@ pub struct Percentiles {
 }
 
 impl WakeLatencies {
-    /// No latencies yet.
+    /// Returns a list of no latencies.
     pub fn new(alloc: Global) -> WakeLatencies
         ensures { (task : ℕ) → latencies_of result task ≡ [] }
     {
@@ -63,7 +63,7 @@ impl WakeLatencies {
         latencies.push(latency)
     }
 
-    /// The percentiles of a task's latencies. Sorts these latencies.
+    /// Sorts the latencies of a task, and returns their percentiles.
     pub fn percentiles(&mut self, task: u16) -> Percentiles
         ensures values { result ≡ percentiles_of (latencies_of self.new task) }
         ensures sorted { IsSorted nat_cmp (latencies_of self.new task) }

@@ -90,7 +90,7 @@ impl Schedule {
         }
     }
 
-    /// An id is admitted. If it was runnable, it no longer is.
+    /// Admits an id. If it was runnable, it no longer is.
     fn admit(&mut self, id: u16, nice: i8)
         ensures { self.new ≡ figures_admitted id nice (figures_left id self.old) }
     {
@@ -102,7 +102,7 @@ impl Schedule {
         self.set_task(id, task);
     }
 
-    /// A wake ended: its task is placed.
+    /// Takes the end of a wake: its task is placed. Reports the change.
     fn place(&mut self, processor: u8, now: u64, decision: Decision, id: u16, to: u8) -> Change
         requires { processor < length self.old.processors }
         ensures figures { self.new ≡ placed processor now decision id to self.old }
@@ -128,7 +128,7 @@ impl Schedule {
         }
     }
 
-    /// All placed tasks entered, and the hook `preempt` decided.
+    /// Takes a drain: all placed tasks entered, and the hook `preempt` decided. Reports the change.
     fn drain(&mut self, processor: u8, now: u64, decision: Decision, run: Option<u16>) -> Change
         requires { processor < length self.old.processors }
         ensures figures { self.new ≡ emptied processor (figures_decided processor now decision run self.old) }
@@ -141,7 +141,7 @@ impl Schedule {
         change
     }
 
-    /// The hook `preempt` decided, and `run` runs now.
+    /// Takes what the hook `preempt` decided: `run` runs now. Reports the change.
     fn decide(&mut self, processor: u8, now: u64, decision: Decision, run: Option<u16>) -> Change
         requires { processor < length self.old.processors }
         ensures figures { self.new ≡ figures_decided processor now decision run self.old }
@@ -162,7 +162,7 @@ impl Schedule {
         }
     }
 
-    /// The running task went to sleep, and `run` runs now.
+    /// Takes a block: the running task went to sleep, and `run` runs now. Reports the change.
     fn block(&mut self, processor: u8, now: u64, id: u16, run: Option<u16>) -> Change
         requires { processor < length self.old.processors }
         ensures figures { self.new ≡ blocked processor now id run self.old }
@@ -182,7 +182,7 @@ impl Schedule {
         }
     }
 
-    /// The hook `pull` decided. A task may have been pulled, and `run` runs now.
+    /// Takes what the hook `pull` decided: a task may have been pulled, and `run` runs now. Reports the change.
     fn pull(
         &mut self,
         processor: u8,
@@ -213,7 +213,7 @@ impl Schedule {
         }
     }
 
-    /// If a task is pulled, its wait so far is counted, and it waits again at its new processor.
+    /// Moves a task that is pulled, if there is one: counts its wait so far, and lets it wait again at its new processor.
     fn take_over(&mut self, task: Option<u16>, from: u8, to: u8, at: u64) -> Option<PulledTask>
         ensures figures { self.new ≡ figures_taken to at task self.old }
         ensures reported { result ≡ moves_as from to at task self.old }
@@ -230,7 +230,7 @@ impl Schedule {
         })
     }
 
-    /// Counts how long a task has waited where it is.
+    /// Counts how long a task has waited where it is, and returns that time in nanoseconds.
     fn count_wait(&mut self, id: u16, now: u64) -> u64
         ensures figures { self.new ≡ waited_there id now self.old }
         ensures waited { result ≡ now - (task_in_figures self.old id).since }
@@ -242,7 +242,7 @@ impl Schedule {
         waited
     }
 
-    /// The wake of a placed task ended now.
+    /// Counts the wake of a placed task, which ended now.
     fn wake(&mut self, id: u16, processor: u8, now: u64)
         ensures { self.new ≡ figures_woken id processor now self.old }
     {
@@ -255,7 +255,7 @@ impl Schedule {
     }
 }
 
-/// The weight of a nice value; 0 if the value is outside the table.
+/// Returns the weight of a nice value; 0 if the value is outside the table.
 fn weight_at(nice: i8) -> u32
     ensures { result ≡ weight_or_zero nice }
 {

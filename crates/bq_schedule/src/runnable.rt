@@ -6,7 +6,7 @@ use crate::figures::{ProcessorFigures, TaskFigures};
 use crate::schedule::Schedule;
 
 impl Schedule {
-    /// The fair time of a task with these figures, in parts of a nanosecond.
+    /// Returns the fair time of a task with these figures, in parts of a nanosecond.
     pub(crate) fn fair_of(&self, task: &TaskFigures) -> u128
         ensures { result ≡ fair_at self.now task.now task.now.processor }
     {
@@ -18,7 +18,7 @@ impl Schedule {
         }
     }
 
-    /// A task is no longer runnable, if it was.
+    /// Takes a task away from the processor where it is runnable, if there is one.
     pub(crate) fn leave(&mut self, id: u16)
         ensures { self.new ≡ figures_left id self.old }
     {
@@ -35,7 +35,7 @@ impl Schedule {
         self.set_task(id, task);
     }
 
-    /// A task that is not runnable becomes runnable at a processor now.
+    /// Lets a task that is not runnable become runnable at a processor now.
     fn join(&mut self, id: u16, processor: u8, now: u64)
         ensures { self.new ≡ joins id processor now self.old }
     {
@@ -49,7 +49,7 @@ impl Schedule {
         self.set_task(id, task);
     }
 
-    /// A task becomes runnable at a processor, and nowhere else.
+    /// Lets a task become runnable at a processor, and nowhere else.
     pub(crate) fn come(&mut self, id: u16, processor: u8, now: u64)
         ensures { self.new ≡ comes id processor now self.old }
     {
@@ -59,14 +59,14 @@ impl Schedule {
 }
 
 impl ProcessorFigures {
-    /// The share that a task of this processor has had since it came, in parts of a nanosecond.
+    /// Returns the share that a task of this processor has had since it came, in parts of a nanosecond.
     fn pending(&self, task: &TaskFigures) -> u128
         ensures { result ≡ pending self.now task.now }
     {
         u128::from(task.weight).saturating_mul(self.shared.saturating_sub(task.joined))
     }
 
-    /// A task of this weight is no longer runnable here.
+    /// Takes away a task of this weight: it is no longer runnable here.
     fn leave(&mut self, weight: u32)
         ensures { self.new ≡ processor_left self.old weight }
     {
@@ -74,7 +74,7 @@ impl ProcessorFigures {
         self.weight = self.weight.saturating_sub(u64::from(weight));
     }
 
-    /// A task of this weight is runnable here from now on.
+    /// Adds a task of this weight: it is runnable here from now on.
     fn join(&mut self, weight: u32)
         ensures { self.new ≡ processor_joined self.old weight }
     {

@@ -9,7 +9,8 @@ use crate::figures::{ProcessorFigures, TaskFigures};
 use crate::schedule::Schedule;
 
 impl Schedule {
-    /// From now on this task runs at a processor, or none does. If it is the one that ran before, nothing changes.
+    /// Lets this task, or none, run at a processor from now on. Returns the stop and the start, if there are any. If the task is the
+    /// one that ran before, nothing changes.
     pub(crate) fn switch(
         &mut self,
         reason: StopReason,
@@ -31,7 +32,7 @@ impl Schedule {
         )
     }
 
-    /// The task that ran stops, if there was one.
+    /// Stops the task that ran, if there was one.
     fn stop(&mut self, reason: StopReason, now: u64, running: Option<Start>) -> Option<Stop>
         ensures figures { self.new ≡ stopped reason now running self.old }
         ensures stop { result ≡ stop_of reason now running }
@@ -49,7 +50,7 @@ impl Schedule {
         })
     }
 
-    /// A task starts running, or none does.
+    /// Starts a task, or none, at a processor.
     fn start(&mut self, processor: u8, now: u64, run: Option<u16>) -> Option<Start>
         ensures figures { self.new ≡ started processor now run self.old }
         ensures start { result ≡ starts_as processor now run self.old }
@@ -64,7 +65,7 @@ impl Schedule {
         start
     }
 
-    /// A task starts running.
+    /// Starts a task at a processor, and counts the start.
     fn begin(&mut self, processor: u8, now: u64, id: u16) -> Start
         ensures figures { self.new ≡ figures_begun processor now id self.old }
         ensures start { result ≡ start_of processor id now (task_in_figures self.old id) }
@@ -78,7 +79,7 @@ impl Schedule {
 }
 
 impl ProcessorFigures {
-    /// The processor runs this task from now on, or none.
+    /// Notes that the processor runs the task of this start from now on, or none.
     fn run(&mut self, start: Option<Start>)
         ensures { self.new ≡ processor_runs self.old start }
     {
@@ -90,7 +91,7 @@ impl ProcessorFigures {
 }
 
 impl TaskFigures {
-    /// The start of the task, if it starts running now.
+    /// Returns the start that the task has if it starts running now.
     fn starting(&self, processor: u8, at: u64, task: u16) -> Start
         ensures { result ≡ start_of processor task at self.now }
     {
@@ -133,7 +134,7 @@ impl TaskFigures {
         self.greatest_latency = self.greatest_latency.max(latency);
     }
 
-    /// Another task runs instead, and this one waits from now on.
+    /// Counts that another task runs instead. This one waits from now on.
     fn preempt(&mut self, now: u64)
         ensures { self.new ≡ task_preempted self.old now }
     {
@@ -142,7 +143,7 @@ impl TaskFigures {
     }
 }
 
-/// Whether the running task is this one. If no task is given: whether nothing runs.
+/// Tells whether the running task is this one. If no task is given: whether nothing runs.
 fn is_run_by(running: Option<Start>, run: Option<u16>) -> bool
     ensures { result ≡ is_run_by running run }
 {

@@ -35,7 +35,7 @@ impl Model for Schedule {
 }
 
 impl Schedule {
-    /// The schedule of this many processors before the first event. Takes all the memory that it ever needs.
+    /// Returns the schedule of this many processors before the first event. Takes all the memory that it ever needs.
     pub fn new(alloc: Global, processors: u8) -> Result<Schedule, AllocError>
         ensures { IfOk result (λ s. s ≡ opening_figures processors) }
     {
@@ -70,7 +70,7 @@ impl Schedule {
         }
     }
 
-    /// The figures of a processor. If the processor does not exist: the figures of one where nothing happened.
+    /// Returns the figures of a processor. If the processor does not exist: the figures of one where nothing happened.
     pub fn processor(&self, number: u8) -> ProcessorFigures
         ensures { result ≡ processor_in_figures self.now number }
     {
@@ -80,7 +80,7 @@ impl Schedule {
         }
     }
 
-    /// The figures of a task. If the id was never admitted: the figures of one to which nothing happened.
+    /// Returns the figures of a task. If the id was never admitted: the figures of one to which nothing happened.
     pub fn task(&self, id: u16) -> TaskFigures
         ensures { result ≡ task_in_figures self.now id }
     {
@@ -90,15 +90,15 @@ impl Schedule {
         }
     }
 
-    /// The fair time of a task, in parts of a nanosecond. It adds up each moment in which a task ran at the processor where this one
-    /// was runnable, times its weight over the sum of all weights that were runnable there.
+    /// Returns the fair time of a task, in parts of a nanosecond. It adds up each moment in which a task ran at the processor where
+    /// this one was runnable, times its weight over the sum of all weights that were runnable there.
     pub fn fair_time(&self, id: u16) -> u128
         ensures { result ≡ fair_of self.now id }
     {
         self.fair_of(&self.task(id))
     }
 
-    /// The processor on which a task was placed, if that processor has not drained its inbox since.
+    /// Returns the processor on which a task was placed, if that processor has not drained its inbox since.
     pub fn undrained(&self, id: u16) -> Option<u8>
         ensures { result ≡ undrained self.now id }
     {
@@ -112,7 +112,8 @@ impl Schedule {
         }
     }
 
-    /// The time from the earliest first reading of any processor's clock to the latest last one, in nanoseconds. 0 if no clock was read.
+    /// Returns the time from the earliest first reading of any processor's clock to the latest last one, in nanoseconds. 0 if no clock
+    /// was read.
     pub fn observed_time(&self) -> u64
         ensures { result ≡ observed_time self.now }
     {
@@ -126,14 +127,14 @@ impl Schedule {
         last.unwrap_or(0).saturating_sub(first.unwrap_or(0))
     }
 
-    /// How many processors there are.
+    /// Returns how many processors there are.
     pub fn processors(&self) -> usize
         ensures { result ≡ length self.now.processors }
     {
         self.processors.len()
     }
 
-    /// How many events were refused. The count stops at its greatest value.
+    /// Returns how many events were refused. The count stops at its greatest value.
     pub fn refused(&self) -> u64
         ensures { result ≡ self.now.refused }
     {
@@ -142,7 +143,7 @@ impl Schedule {
 }
 
 impl Schedule {
-    /// Whether the processor exists whose clock an event reads. True for an event that reads no clock.
+    /// Tells whether the processor exists whose clock an event reads. True for an event that reads no clock.
     fn has_processor(&self, event: &Event) -> bool
         ensures { result ≡ is_there self.now event.now }
     {
