@@ -1,4 +1,4 @@
--- The stretch of time that a picture is drawn over.
+-- The time over which a picture is drawn.
 use Rattle.std.specs.Prelude.{◌≡◌, ℕ, ◌<◌, ◌≤◌, max, min, Some, IsSome}
 use Rattle.bq_schedule.specs.Figures.{Figures, processor_in_figures}
 use Rattle.bq_report.specs.declared.window.Window.{Window}

@@ -21,7 +21,7 @@ impl Model for AdmittedTasks {
 }
 
 impl AdmittedTasks {
-    /// No task is admitted yet.
+    /// Returns a list to which no task is admitted yet.
     pub fn new(alloc: Global) -> AdmittedTasks
         ensures { result ≡ [] }
     {
@@ -41,14 +41,14 @@ impl AdmittedTasks {
         Ok(())
     }
 
-    /// The place of a task, from 0 on. `None` if it is not admitted.
+    /// Returns the place of a task, from 0 on. `None` if it is not admitted.
     pub fn place(&self, task: u16) -> Option<usize>
         ensures { result ≡ admitted_place self.now task }
     {
         self.tasks.iter().position(|other| *other == task)
     }
 
-    /// The tasks, by their places.
+    /// Returns the tasks, by their places.
     pub fn tasks(&self) -> &[u16]
         ensures { result.now ≡ self.now }
     {

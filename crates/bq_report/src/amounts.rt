@@ -13,6 +13,7 @@ pub struct Millis(pub u64);
 impl fmt::Display for Millis {
     ghost output = { λ t. Some (millis_text t.0) };
 
+    /// Writes the milliseconds, without the unit.
     fn fmt<W: fmt::Write>(&self, f: &mut fmt::Formatter<W>) -> fmt::Result {
         let time = Thousandths(self.0 / 1000);
         write!(f, "{time}")
@@ -28,6 +29,7 @@ pub struct Micros(pub u64);
 impl fmt::Display for Micros {
     ghost output = { λ t. Some (micros_text t.0) };
 
+    /// Writes the microseconds, without the unit.
     fn fmt<W: fmt::Write>(&self, f: &mut fmt::Formatter<W>) -> fmt::Result {
         let time = Thousandths(self.0);
         write!(f, "{time}")
@@ -42,7 +44,7 @@ pub enum Unit {
 }
 
 impl Unit {
-    /// The unit for moments that are this far apart.
+    /// Returns the unit for moments that are this many nanoseconds apart.
     pub fn for_step(step: u64) -> Unit
         ensures { result ≡ (if nat_lt step 1000 then Unit.Microseconds else Unit.Milliseconds) }
     {
@@ -66,6 +68,7 @@ pub struct MomentText {
 impl fmt::Display for MomentText {
     ghost output = { λ m. Some (moment_text m.time m.unit) };
 
+    /// Writes the time and its unit.
     fn fmt<W: fmt::Write>(&self, f: &mut fmt::Formatter<W>) -> fmt::Result {
         match self.unit {
             Unit::Microseconds => {
@@ -87,6 +90,7 @@ pub(crate) struct Decimals(pub(crate) u64);
 impl fmt::Display for Decimals {
     ghost output = { λ n. Some (three_decimals n.0) };
 
+    /// Writes the three digits.
     fn fmt<W: fmt::Write>(&self, f: &mut fmt::Formatter<W>) -> fmt::Result {
         let tenths = self.0 / 100 % 10;
         let hundredths = self.0 / 10 % 10;
@@ -102,6 +106,7 @@ struct Thousandths(u64);
 impl fmt::Display for Thousandths {
     ghost output = { λ n. Some (thousandths n.0) };
 
+    /// Writes the whole part, a point and the three decimals.
     fn fmt<W: fmt::Write>(&self, f: &mut fmt::Formatter<W>) -> fmt::Result {
         let whole = self.0 / 1000;
         let decimals = Decimals(self.0);

@@ -32,7 +32,7 @@ impl Model for Csv {
 }
 
 impl Csv {
-    /// A form for the slices in the window.
+    /// Returns a form for the slices in the window.
     pub fn new(alloc: Global, window: Window) -> Csv
         ensures { result ≡ window }
     {
@@ -71,7 +71,7 @@ fn write_row(alloc: Global, fields: &[&[u8]], text: &mut String) -> Result<(), A
     }
 }
 
-/// A row of these fields.
+/// Returns a row of these fields.
 ///
 /// A writer has a large buffer on the stack, so this is kept out of the path of a change without a row.
 #[inline(never)]
@@ -87,6 +87,7 @@ fn row(alloc: Global, fields: &[&[u8]]) -> Result<Vec<u8>, Error>
 }
 
 impl ScheduleForm for Csv {
+    /// Adds the head of the columns.
     fn begin(
         &mut self,
         _schedule: &Schedule,
@@ -99,6 +100,7 @@ impl ScheduleForm for Csv {
         text.push_str("processor,task,from,to\n")
     }
 
+    /// Adds the row of the slice that was charged, if any of it is shown.
     fn take(
         &mut self,
         change: &Change,
@@ -116,6 +118,7 @@ impl ScheduleForm for Csv {
         }
     }
 
+    /// Adds nothing.
     fn end(
         &mut self,
         _schedule: &Schedule,

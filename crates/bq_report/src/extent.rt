@@ -1,4 +1,4 @@
-//! The stretch of time that a picture is drawn over.
+//! The time over which a picture is drawn.
 ghost use Rattle.std.specs.Prelude.{◌≡◌, ◌-◌, ◌≤◌, IfSome, IfNone};
 ghost use Rattle.bq_report.specs.declared.extent.Extent.{Extent};
 ghost use Rattle.bq_report.specs.Extents.{IsInWindow, SpansReadings};
@@ -7,8 +7,8 @@ use crate::window::Window;
 use bq_disc::limits::PROCESSORS;
 use bq_schedule::Schedule;
 
-/// The stretch of time that a picture is drawn over. It reaches from the first reading of a shown processor's clock to the last, and is
-/// cut at the edges of the window. It is not empty.
+/// The time over which a picture is drawn. It reaches from the first reading of a shown processor's clock to the last, and is cut at the
+/// edges of the window. It is not empty.
 #[derive(Clone, Copy)]
 pub struct Extent {
     pub from: u64,
@@ -16,7 +16,7 @@ pub struct Extent {
 }
 
 impl Extent {
-    /// The extent of a schedule in a window. `None` if no time passes, or if no shown processor's clock was read.
+    /// Returns the extent of a schedule in a window. `None` if no time passes, or if no shown processor's clock was read.
     pub fn of(schedule: &Schedule, window: &Window) -> Option<Extent>
         ensures window { IfSome result (IsInWindow window.now) }
         ensures extent { IfSome result (SpansReadings window.now schedule.now) }
@@ -38,7 +38,7 @@ impl Extent {
         (from < to).then_some(Extent { from, to })
     }
 
-    /// How long the extent is, in nanoseconds.
+    /// Returns how long the extent is, in nanoseconds.
     pub fn length(&self) -> u64
         ensures { result ≡ self.now.to - self.now.from }
     {

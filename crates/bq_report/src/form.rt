@@ -26,7 +26,7 @@ pub trait ScheduleForm: Drop {
         text: &mut String,
     ) -> Result<(), AllocError>;
 
-    /// A task is admitted. A form with letters or colours for tasks gives the task the next one.
+    /// Notes that a task is admitted. A form with letters or colours for tasks gives the task the next one.
     fn admit(&mut self, _task: u16) -> Result<(), AllocError> {
         Ok(())
     }

@@ -1,4 +1,4 @@
-//! The columns of a map, over a stretch of time.
+//! The columns of a map, over an extent.
 ghost use Rattle.std.specs.Prelude.{◌≡◌, ◌<◌, ◌*◌, ◌^◌, ◌++◌, OnOk, string_bytes};
 ghost use Rattle.bq_report.specs.declared.grid.Grid.{Grid};
 ghost use Rattle.bq_report.specs.Maps.{grid_over, last_mark, ruler_mark_text, ruler_marks_text, moment_at, ruler_text, unit_for};
@@ -19,7 +19,7 @@ pub(crate) struct Grid {
 }
 
 impl Grid {
-    /// As many columns of this length as cover the extent.
+    /// Returns as many columns of this length, in nanoseconds, as cover the extent.
     pub(crate) fn new(extent: &Extent, step: u64) -> Grid
         requires { 0 < step }
         ensures { result ≡ grid_over extent.now step }
@@ -31,7 +31,7 @@ impl Grid {
         }
     }
 
-    /// The moment at which a column begins and the column before it ends.
+    /// Returns the moment at which a column begins and the column before it ends.
     pub(crate) fn moment(&self, column: u64) -> u64
         ensures { result ≡ moment_at self.now column }
     {
@@ -64,7 +64,7 @@ impl Grid {
         Ok(())
     }
 
-    /// The moment at a mark of the ruler.
+    /// Returns the moment at a mark of the ruler.
     fn mark(&self, number: u64) -> MomentText
         requires { number * TICK < 2 ^ 64 }
         ensures { result ≡ record { time = moment_at self.now (number * TICK); unit = unit_for self.now.step } }

@@ -32,7 +32,7 @@ pub struct Json {
 const HEAD: &str = "{\"schema\":1,\"tasks\":[";
 
 impl Json {
-    /// A form for the figures of the tasks and processors in the window.
+    /// Returns a form for the figures of the tasks and processors in the window.
     pub fn new(alloc: Global, window: Window) -> Json
         ensures window { result.window ≡ window }
         ensures latencies { (task : ℕ) → latencies_of result.latencies task ≡ [] }
@@ -147,7 +147,7 @@ fn write_element(
     text.push_str(element.as_str())
 }
 
-/// The object of a task.
+/// Returns the object of a task.
 #[tactic(auto, unfolding(crate::specs::Objects::task_object))]
 fn task_value(
     alloc: Global,
@@ -179,7 +179,7 @@ fn task_value(
     })
 }
 
-/// The counts of a task.
+/// Returns the object of a task's counts.
 fn counts_value(alloc: Global, figures: &TaskFigures) -> Result<Value, AllocError>
     ensures { IfOk result (λ v. view v ≡ counts_object figures.now) }
 {
@@ -191,7 +191,7 @@ fn counts_value(alloc: Global, figures: &TaskFigures) -> Result<Value, AllocErro
     })
 }
 
-/// The percentiles of a task's latencies.
+/// Returns the object of the percentiles of a task's latencies.
 fn latency_value(alloc: Global, percentiles: &Percentiles) -> Result<Value, AllocError>
     ensures { IfOk result (λ v. view v ≡ latency_object percentiles.now) }
 {
@@ -202,7 +202,7 @@ fn latency_value(alloc: Global, percentiles: &Percentiles) -> Result<Value, Allo
     json!(in alloc; {"p50": median, "p95": most, "p99": nearly_all, "max": greatest})
 }
 
-/// The object of a processor in this observed time.
+/// Returns the object of a processor in this observed time.
 #[tactic(auto, unfolding(crate::specs::Objects::processor_object))]
 fn processor_value(
     alloc: Global,
@@ -227,7 +227,7 @@ fn processor_value(
     })
 }
 
-/// The figures of a hook.
+/// Returns the object of a hook's figures.
 fn hook_value(alloc: Global, figures: &HookFigures) -> Result<Value, AllocError>
     ensures { IfOk result (λ v. view v ≡ hook_object figures.now) }
 {
@@ -238,7 +238,7 @@ fn hook_value(alloc: Global, figures: &HookFigures) -> Result<Value, AllocError>
     })
 }
 
-/// A text, or null.
+/// Returns the value of a text; null if there is no text.
 fn text_value(alloc: Global, text: Option<&str>) -> Result<Value, AllocError>
     ensures { IfOk result (λ v. view v ≡ text_or_null (option_map (λ t. t.now) text.entry)) }
 {
@@ -248,7 +248,7 @@ fn text_value(alloc: Global, text: Option<&str>) -> Result<Value, AllocError>
     }
 }
 
-/// A number, or null.
+/// Returns the value of a number; null if there is no number.
 fn number(value: Option<u64>) -> Value
     ensures { view result ≡ number_or_null value }
 {
@@ -276,6 +276,7 @@ fn write_end(text: &mut String) -> Result<(), AllocError>
 }
 
 impl ScheduleForm for Json {
+    /// Adds nothing: the whole object comes at the end.
     fn begin(
         &mut self,
         _schedule: &Schedule,
@@ -288,6 +289,7 @@ impl ScheduleForm for Json {
         Ok(())
     }
 
+    /// Takes the latency of the start in a change, if there is one.
     fn take(
         &mut self,
         change: &Change,
@@ -303,6 +305,7 @@ impl ScheduleForm for Json {
         self.latencies.take(change)
     }
 
+    /// Adds the whole object. Sorts the latencies.
     fn end(
         &mut self,
         schedule: &Schedule,

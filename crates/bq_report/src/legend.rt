@@ -49,7 +49,7 @@ pub(crate) struct Legend {
 }
 
 impl Legend {
-    /// The legend of no rows yet.
+    /// Returns the legend of no rows yet.
     pub(crate) fn new(alloc: Global) -> Legend
         ensures { (extent : Extent) → Notes extent [] [] result }
     {
@@ -226,7 +226,7 @@ pub(crate) fn write_signs(
     Ok(())
 }
 
-/// The sign of a column.
+/// Returns the sign of a column.
 fn sign(admitted: &AdmittedTasks, column: Column) -> char
     ensures sign { result ≡ column_sign admitted.now column }
     ensures ascii { result < 128 }
@@ -238,7 +238,7 @@ fn sign(admitted: &AdmittedTasks, column: Column) -> char
     }
 }
 
-/// The letter of a task by its place. A task without a place has `*`.
+/// Returns the letter of a task by its place. A task without a place has `*`.
 fn letter_if(place: Option<usize>) -> char
     ensures letter { result ≡ letter_if place }
     ensures ascii { result < 128 }
@@ -249,7 +249,7 @@ fn letter_if(place: Option<usize>) -> char
     }
 }
 
-/// The letter of the task at this place among all that are admitted. `*` if the letters are used up.
+/// Returns the letter of the task at this place among all that are admitted. `*` if the letters are used up.
 fn letter_at(place: usize) -> char
     ensures letter { result ≡ letter_at place }
     ensures ascii { result < 128 }

@@ -13,8 +13,8 @@ pub struct TaskTime {
     pub time: u128,
 }
 
-/// The task that ran longest from one moment to another, among these runs. Of equal ones it is the task of least number. `None` if no
-/// task ran.
+/// Returns the task that ran longest from one moment to another, among these runs. Of equal ones it is the task of least number.
+/// `None` if no task ran.
 pub fn longest_in(
     alloc: Global,
     runs: &[Slice],
@@ -35,7 +35,7 @@ pub fn longest_in(
     }
 }
 
-/// A time less what these runs take from one moment to another. 0 if they take more.
+/// Returns a time less what these runs take from one moment to another, in nanoseconds. 0 if they take more.
 pub(crate) fn time_left(time: u64, runs: &[Slice], from: u64, to: u64) -> u64
     ensures { result ≡ time - time_of_all from to runs.now }
 {
@@ -46,14 +46,15 @@ pub(crate) fn time_left(time: u64, runs: &[Slice], from: u64, to: u64) -> u64
     left
 }
 
-/// How long a run lasts from one moment to another.
+/// Returns how long a run lasts from one moment to another, in nanoseconds.
 pub(crate) fn time_between(run: &Slice, from: u64, to: u64) -> u64
     ensures { result ≡ time_between from to run.now }
 {
     run.to.min(to).saturating_sub(run.from.max(from))
 }
 
-/// How long each task ran from one moment to another, among these runs. A task's time is at the place of its number.
+/// Returns how long each task ran from one moment to another, among these runs, in nanoseconds. A task's time is at the place of its
+/// number.
 fn times_in(alloc: Global, runs: &[Slice], from: u64, to: u64) -> Result<Vec<u128>, AllocError>
     ensures length { IfOk result (λ v. vec_len v ≡ TASKS) }
     ensures times { IfOk result (λ v. (task : ℕ) → task < TASKS → slice_index v.items task ≡ task_time_between from to runs.now task) }
@@ -70,7 +71,7 @@ fn times_in(alloc: Global, runs: &[Slice], from: u64, to: u64) -> Result<Vec<u12
     Ok(times)
 }
 
-/// The place of the greatest time, the first of equal ones. `None` if all are 0.
+/// Returns the place of the greatest time, the first of equal ones. `None` if all are 0.
 fn greatest(times: &[u128]) -> Option<u16>
     requires { length times.now ≡ TASKS }
     ensures greatest { IfSome result (IsFirstGreatest TASKS (λ task. slice_index times.now task)) }

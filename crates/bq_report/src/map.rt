@@ -34,7 +34,7 @@ pub struct Map {
 }
 
 impl Map {
-    /// A map of the window, this many columns wide.
+    /// Returns a map of the window, this many columns wide.
     pub fn new(alloc: Global, window: Window, width: usize) -> Map
         ensures given { (result.window ≡ window) × (result.width ≡ width) }
         ensures empty { (result.admitted ≡ []) × (result.rows.items ≡ []) }
@@ -123,7 +123,7 @@ fn add_rows(alloc: Global, count: usize, rows: &mut Vec<MapRow>) -> Result<(), A
     Ok(())
 }
 
-/// The part of a run that is in the window at a shown processor, whether its task is shown or not.
+/// Returns the part of a run that is in the window at a shown processor, whether its task is shown or not.
 fn held_part(alloc: Global, window: &Window, run: Option<Slice>) -> Option<Slice>
     ensures { IsHeldPart window.now run result }
 {
@@ -144,7 +144,7 @@ fn hold_part(window: &Window, run: Slice, rows: &mut Vec<MapRow>) -> Result<(), 
     Ok(())
 }
 
-/// How many columns of a line show steps of time.
+/// Returns how many columns of a line show steps of time: at least 1.
 fn columns_in(width: usize) -> u16
     ensures { result ≡ columns_in width }
 {
@@ -193,6 +193,7 @@ fn write_row(
 }
 
 impl ScheduleForm for Map {
+    /// Adds a row for each processor. The text stays as it is.
     fn begin(
         &mut self,
         schedule: &Schedule,
@@ -206,6 +207,7 @@ impl ScheduleForm for Map {
         add_rows(self.alloc, schedule.processors(), &mut self.rows)
     }
 
+    /// Gives a task the next letter, unless it has one.
     fn admit(&mut self, task: u16) -> Result<(), AllocError>
         ensures ok { OnOk result (self.new ≡ record self.old { admitted = with_admitted task self.old.admitted }) }
         ensures fault { OnErr result (self.new ≡ self.old) }
@@ -213,6 +215,7 @@ impl ScheduleForm for Map {
         self.admitted.admit(task)
     }
 
+    /// Holds the run that ends, if there is one. The text stays as it is.
     fn take(
         &mut self,
         change: &Change,
@@ -228,6 +231,7 @@ impl ScheduleForm for Map {
         self.hold(change.run)
     }
 
+    /// Holds the last runs, and adds the map.
     fn end(
         &mut self,
         schedule: &Schedule,

@@ -37,7 +37,7 @@ impl Model for MapRow {
 }
 
 impl MapRow {
-    /// A row without a run.
+    /// Returns a row without a run.
     pub(crate) fn new(alloc: Global) -> MapRow
         ensures { result ≡ empty_map_row }
     {
@@ -60,14 +60,14 @@ impl MapRow {
         Ok(())
     }
 
-    /// The runs of shown tasks.
+    /// Returns the runs of shown tasks.
     pub(crate) fn shown(&self) -> &[Slice]
         ensures { result.now ≡ self.now.shown }
     {
         self.shown.as_slice()
     }
 
-    /// What the columns show. Sorts the runs by their beginnings, which is their order in a schedule anyway.
+    /// Sorts the runs by their beginnings, which is their order in a schedule anyway, and returns what the columns show.
     pub(crate) fn columns(&mut self, alloc: Global, grid: &Grid) -> Result<Vec<Column>, AllocError>
         ensures { IfOk result (λ columns. AreColumns self.old grid.now columns.items) }
     {
@@ -85,7 +85,7 @@ fn sort(runs: &mut Vec<Slice>)
     runs.sort_unstable_by_key(|run| run.from);
 }
 
-/// What the columns show, by the runs of shown tasks and the runs of hidden ones.
+/// Returns what the columns show, by the runs of shown tasks and the runs of hidden ones.
 fn columns_of(
     alloc: Global,
     shown: &[Slice],
@@ -109,7 +109,7 @@ fn columns_of(
     Ok(columns)
 }
 
-/// What a column between two moments shows, by the runs of shown tasks and the runs of hidden ones.
+/// Returns what a column between two moments shows, by the runs of shown tasks and the runs of hidden ones.
 fn column_between(
     alloc: Global,
     shown: &[Slice],
@@ -130,7 +130,7 @@ fn column_between(
     )
 }
 
-/// What a column between two moments shows, by the runs in it: those of shown tasks and those of hidden ones.
+/// Returns what a column between two moments shows, by the runs in it: those of shown tasks and those of hidden ones.
 fn column_of(
     alloc: Global,
     shown: &[Slice],
@@ -159,7 +159,7 @@ fn column_of(
     }
 }
 
-/// The runs that begin before a moment, if the runs are sorted by their beginnings.
+/// Returns the runs that begin before a moment. The runs must be sorted by their beginnings.
 fn begun_before(runs: &[Slice], to: u64) -> &[Slice]
     requires { IsNonDecreasingBy (λ (run : Slice). run.from) runs.now }
     ensures { (from : ℕ) → LastAsLong from to result.now runs.now }
@@ -167,14 +167,14 @@ fn begun_before(runs: &[Slice], to: u64) -> &[Slice]
     &runs[..begun(runs, to)]
 }
 
-/// How many runs begin before a moment, up to the first that does not.
+/// Returns how many runs begin before a moment, up to the first that does not.
 fn begun(runs: &[Slice], to: u64) -> usize
     ensures { result ≡ prefix_len (λ (run : Slice). nat_lt run.from to) runs.now }
 {
     runs.iter().take_while(|run| run.from < to).count()
 }
 
-/// The runs without the first ones, which are over at a moment.
+/// Returns the runs without the first ones, which are over at a moment. The runs must be sorted by their beginnings.
 fn not_over(runs: &[Slice], at: u64) -> &[Slice]
     requires { IsNonDecreasingBy (λ (run : Slice). run.from) runs.now }
     ensures order { IsNonDecreasingBy (λ (run : Slice). run.from) result.now }
@@ -183,7 +183,7 @@ fn not_over(runs: &[Slice], at: u64) -> &[Slice]
     &runs[over(runs, at)..]
 }
 
-/// How many runs are over at a moment, up to the first that is not.
+/// Returns how many runs are over at a moment, up to the first that is not.
 fn over(runs: &[Slice], at: u64) -> usize
     ensures { result ≡ prefix_len (λ (run : Slice). nat_le run.to at) runs.now }
 {

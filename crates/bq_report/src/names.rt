@@ -27,7 +27,7 @@ impl Model for Names {
 }
 
 impl Names {
-    /// No task has a name yet.
+    /// Returns the names of no tasks.
     pub fn new(alloc: Global) -> Names
         ensures { (task : ℕ) → name_of result task ≡ None }
     {
@@ -37,7 +37,8 @@ impl Names {
         }
     }
 
-    /// Reads a comment as the trace has it. A comment that names no task changes nothing. If memory runs out, nothing changes.
+    /// Reads a comment as the trace has it, and names the task that the comment names. A comment that names no task changes nothing.
+    /// If memory runs out, nothing changes.
     pub fn learn(&mut self, comment: &[u8]) -> Result<(), AllocError>
         ensures ok { OnOk result (Learns comment.now self.old self.new) }
         ensures fault { OnErr result ((task : ℕ) → name_of self.new task ≡ name_of self.old task) }
@@ -49,7 +50,7 @@ impl Names {
         Ok(())
     }
 
-    /// The name of a task, if it has one.
+    /// Returns the name of a task, if it has one.
     pub fn of(&self, task: u16) -> Option<&str>
         ensures { option_map (λ name. name.now) result ≡ name_of self.now task }
     {
@@ -59,7 +60,7 @@ impl Names {
         }
     }
 
-    /// The name of a task; empty if it has none.
+    /// Returns the name of a task; empty if it has none.
     pub fn text(&self, task: u16) -> &str
         ensures { result.now ≡ name_text self.now task }
     {
@@ -70,7 +71,7 @@ impl Names {
     }
 }
 
-/// The task that a comment names, and its name. `None` if the comment names no task.
+/// Returns the task that a comment names, and its name. `None` if the comment names no task.
 fn naming(comment: &[u8]) -> Option<(u16, &str)>
     ensures named { IfSome result (λ naming. IsNaming comment.now naming.0 naming.1.now) }
     ensures none { IfNone result ((task : ℕ) (name : List ℕ) → ¬ (IsNaming comment.now task name)) }
@@ -84,7 +85,7 @@ fn naming(comment: &[u8]) -> Option<(u16, &str)>
     Some((task, name))
 }
 
-/// The number of a task, in decimal. `None` if the word is no such number.
+/// Returns the number of a task that a word writes in decimal. `None` if the word writes no such number.
 fn task_number(word: &[u8]) -> Option<u16>
     ensures { result ≡ task_number word.now }
 {

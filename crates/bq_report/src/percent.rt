@@ -15,7 +15,7 @@ pub struct Percent {
 }
 
 impl Percent {
-    /// The part, in hundredths of a percent.
+    /// Returns the part, in hundredths of a percent.
     fn hundredths(&self) -> u128
         ensures { result ≡ hundredths_of self.now.part self.now.whole }
     {
@@ -30,6 +30,7 @@ impl Percent {
 impl fmt::Display for Percent {
     ghost output = { λ p. Some (percent_text p.part p.whole) };
 
+    /// Writes the percent with two decimals, in six columns: wider if needed.
     fn fmt<W: fmt::Write>(&self, f: &mut fmt::Formatter<W>) -> fmt::Result {
         let hundredths = self.hundredths();
         let whole = hundredths / 100;

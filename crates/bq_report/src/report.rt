@@ -26,7 +26,7 @@ pub struct Report {
 }
 
 impl Report {
-    /// A report of the tasks and processors in the window.
+    /// Returns a report of the tasks and processors in the window.
     pub fn new(alloc: Global, window: Window) -> Report
         ensures window { result.window ≡ window }
         ensures latencies { (task : ℕ) → latencies_of result.latencies task ≡ [] }
@@ -188,14 +188,14 @@ fn write_hook_head(text: &mut String, has_head: bool) -> Result<(), AllocError>
     text.push_str(HOOK_HEAD)
 }
 
-/// Whether a processor has lines for its hooks: it is shown, and a policy was asked there.
+/// Tells whether a processor has lines for its hooks: it is shown, and a policy was asked there.
 fn has_hooks(window: &Window, number: u8, figures: &ProcessorFigures) -> bool
     ensures { IsTrue result ↔ (ShowsProcessor window.now number × WasAsked figures.now) }
 {
     window.shows_processor(number) && was_asked(figures)
 }
 
-/// Whether a policy was asked at a hook of a processor.
+/// Tells whether a policy was asked at a hook of a processor.
 fn was_asked(figures: &ProcessorFigures) -> bool
     ensures { IsTrue result ↔ WasAsked figures.now }
 {
@@ -203,6 +203,7 @@ fn was_asked(figures: &ProcessorFigures) -> bool
 }
 
 impl ScheduleForm for Report {
+    /// Adds nothing: the tables come at the end.
     fn begin(
         &mut self,
         _schedule: &Schedule,
@@ -215,6 +216,7 @@ impl ScheduleForm for Report {
         Ok(())
     }
 
+    /// Takes the latency of the start in a change, if there is one.
     fn take(
         &mut self,
         change: &Change,
@@ -230,6 +232,7 @@ impl ScheduleForm for Report {
         self.latencies.take(change)
     }
 
+    /// Adds the tables. Sorts the latencies.
     fn end(
         &mut self,
         schedule: &Schedule,

@@ -51,7 +51,7 @@ pub const STEPS: [u64; 45] = [
     500_000_000_000_000,
 ];
 
-/// The least round step with which `count` steps cover a span of time. `None` if the span is too long, or if `count` is 0.
+/// Returns the least round step with which `count` steps cover a span of time. `None` if the span is too long, or if `count` is 0.
 ///
 /// 3.2 ms in 72 columns have steps of 50 us.
 pub fn round_step(span: u64, count: u16) -> Option<u64>

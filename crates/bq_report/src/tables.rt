@@ -52,7 +52,7 @@ fn write_latency(text: &mut String, latency: Option<u64>) -> Result<(), AllocErr
     }
 }
 
-/// Parts of a nanosecond as the nearest number of nanoseconds. It stops at its type's greatest number.
+/// Returns parts of a nanosecond as the nearest number of nanoseconds. It stops at its type's greatest number.
 pub fn nanoseconds(parts: u128) -> u64
     ensures { result ≡ nearest parts }
 {

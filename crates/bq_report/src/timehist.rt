@@ -41,14 +41,14 @@ impl Model for Timehist {
 }
 
 impl Timehist {
-    /// A form for the lines of the window.
+    /// Returns a form for the lines of the window.
     pub fn new(window: Window) -> Timehist
         ensures { result ≡ window }
     {
         Timehist { window }
     }
 
-    /// The wake, if it is shown.
+    /// Returns the wake, if it is shown.
     fn shown_wake(&self, wake: Option<Wake>) -> Option<Wake>
         ensures { IsShownWake self.now wake result }
     {
@@ -60,7 +60,7 @@ impl Timehist {
         }
     }
 
-    /// The end of a run, if it is shown.
+    /// Returns the end of a run, if it is shown.
     fn shown_stop(&self, stop: Option<Stop>) -> Option<Stop>
         ensures { IsShownStop self.now stop result }
     {
@@ -72,14 +72,14 @@ impl Timehist {
         }
     }
 
-    /// Whether a run is shown that ends at this moment.
+    /// Tells whether a run is shown that ends at this moment.
     fn shows_run(&self, start: &Start, at: u64) -> bool
         ensures { IsTrue result ↔ Shows self.now start.now.processor start.now.task at }
     {
         self.window.shows(start.processor, start.task, at)
     }
 
-    /// The start of a task on another processor than before, if it is shown.
+    /// Returns the start of a task on another processor than before, if it is shown.
     fn shown_migration(&self, start: Option<Start>) -> Option<Start>
         ensures { IsShownMigration self.now start result }
     {
@@ -218,7 +218,7 @@ fn write_runner_at(
     write_run_on(text, runner, figures.last, names)
 }
 
-/// The start of the task that runs on at a processor, if it is shown.
+/// Returns the start of the task that runs on at a processor, if it is shown.
 fn shown_runner(window: &Window, processor: u8, last: u64, running: Option<Start>) -> Option<Start>
     ensures { IsShownRunner window.now processor last running result }
 {
@@ -287,6 +287,7 @@ fn write_short_millis(text: &mut String, time: u64) -> Result<(), AllocError>
 }
 
 impl ScheduleForm for Timehist {
+    /// Adds the head above the lines.
     fn begin(
         &mut self,
         _schedule: &Schedule,
@@ -299,6 +300,7 @@ impl ScheduleForm for Timehist {
         text.push_str(HEAD)
     }
 
+    /// Adds the lines of a change, of what is shown of it.
     fn take(
         &mut self,
         change: &Change,
@@ -317,6 +319,7 @@ impl ScheduleForm for Timehist {
         write_change(text, wake, stop, migration, schedule, names)
     }
 
+    /// Adds the lines of the shown runs that still go on.
     fn end(
         &mut self,
         schedule: &Schedule,

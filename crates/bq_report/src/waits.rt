@@ -6,8 +6,8 @@ ghost use Rattle.bq_report.specs.Waits.{open_wait, still_waiting, waited_in_all,
 
 use bq_schedule::{ProcessorFigures, Schedule};
 
-/// How long a task has waited in all, in nanoseconds: the waits that are over, and the one that still goes on when the schedule ends.
-/// It stops at its type's greatest number.
+/// Returns how long a task has waited in all, in nanoseconds: the waits that are over, and the one that still goes on when the
+/// schedule ends. It stops at its type's greatest number.
 ///
 /// A task that was placed at 2 ms on a processor whose clock was last read at 2,000 ms, and that has never run, has waited for
 /// 1,998 ms.
@@ -20,9 +20,9 @@ pub fn waited_in_all(schedule: &Schedule, task: u16) -> u64
         .saturating_add(open_wait(schedule, task))
 }
 
-/// How long a task has waited that has not run since its last wake, in nanoseconds. It counts from the end of that wake to the last
-/// reading of the clock of the processor where the task is runnable; 0 if the two clocks disagree. `None` if the task has run since its
-/// last wake, was never woken, or does not wait.
+/// Returns how long a task has waited that has not run since its last wake, in nanoseconds. It counts from the end of that wake to the
+/// last reading of the clock of the processor where the task is runnable; 0 if the two clocks disagree. `None` if the task has run
+/// since its last wake, was never woken, or does not wait.
 pub fn still_waiting(schedule: &Schedule, task: u16) -> Option<u64>
     ensures { result ≡ still_waiting schedule.now task }
 {
@@ -31,7 +31,7 @@ pub fn still_waiting(schedule: &Schedule, task: u16) -> Option<u64>
     Some(last.saturating_sub(woken))
 }
 
-/// How long the task's current wait has lasted; 0 if it does not wait.
+/// Returns how long the task's current wait has lasted, in nanoseconds; 0 if it does not wait.
 fn open_wait(schedule: &Schedule, task: u16) -> u64
     ensures { result ≡ open_wait schedule.now task }
 {
@@ -41,7 +41,7 @@ fn open_wait(schedule: &Schedule, task: u16) -> u64
     }
 }
 
-/// The last reading of the clock of the processor where a task waits. `None` if it does not wait.
+/// Returns the last reading of the clock of the processor where a task waits. `None` if it does not wait.
 fn waits_until(schedule: &Schedule, task: u16) -> Option<u64>
     ensures { result ≡ waits_until schedule.now task }
 {
@@ -54,7 +54,7 @@ fn waits_until(schedule: &Schedule, task: u16) -> Option<u64>
     }
 }
 
-/// Whether this task runs at a processor.
+/// Tells whether this task runs at a processor.
 fn runs(processor: &ProcessorFigures, task: u16) -> bool
     ensures { result ≡ is_this task (running_task processor.now) }
 {

@@ -24,7 +24,7 @@ pub struct Window {
 }
 
 impl Window {
-    /// A window that shows all of a schedule.
+    /// Returns a window that shows all of a schedule.
     pub fn whole(alloc: Global) -> Window
         ensures tasks { result.tasks.items ≡ [] }
         ensures rest { (result.from ≡ 0) × (result.to ≡ 2 ^ 64 - 1) × (result.processors ≡ 2 ^ 64 - 1) }
@@ -37,7 +37,7 @@ impl Window {
         }
     }
 
-    /// A window of every task, with the same stretch of time and the same processors.
+    /// Returns a window of every task, with the same stretch of time and the same processors.
     pub fn with_every_task(&self, alloc: Global) -> Window
         ensures tasks { result.tasks.items ≡ [] }
         ensures rest { (result.from ≡ self.now.from) × (result.to ≡ self.now.to) × (result.processors ≡ self.now.processors) }
@@ -50,14 +50,14 @@ impl Window {
         }
     }
 
-    /// Whether a processor is shown.
+    /// Tells whether a processor is shown.
     pub fn shows_processor(&self, processor: u8) -> bool
         ensures { IsTrue result ↔ ShowsProcessor self.now processor }
     {
         processor < PROCESSORS && allows(self.processors, processor)
     }
 
-    /// Whether the row with this number is shown: the row of the processor with this number.
+    /// Tells whether the row with this number is shown: the row of the processor with this number.
     pub fn shows_row(&self, number: usize) -> bool
         ensures { IsTrue result ↔ ShowsProcessor self.now number }
     {
@@ -67,35 +67,35 @@ impl Window {
         }
     }
 
-    /// Whether a task is shown.
+    /// Tells whether a task is shown.
     pub fn shows_task(&self, task: u16) -> bool
         ensures { IsTrue result ↔ ShowsTask self.now task }
     {
         self.tasks.is_empty() || self.tasks.contains(&task)
     }
 
-    /// Whether a task is in a report: it was admitted, and is shown.
+    /// Tells whether a task is in a report: it was admitted, and is shown.
     pub(crate) fn has_task(&self, schedule: &Schedule, task: u16) -> bool
         ensures { IsTrue result ↔ HasTask self.now schedule.now task }
     {
         schedule.task(task).is_admitted && self.shows_task(task)
     }
 
-    /// Whether a processor is in a report: it exists, and is shown.
+    /// Tells whether a processor is in a report: it exists, and is shown.
     pub(crate) fn has_processor(&self, schedule: &Schedule, number: u8) -> bool
         ensures { IsTrue result ↔ HasProcessor self.now schedule.now number }
     {
         usize::from(number) < schedule.processors() && self.shows_processor(number)
     }
 
-    /// Whether the window shows what happens to a task at a processor at a moment.
+    /// Tells whether the window shows what happens to a task at a processor at a moment.
     pub fn shows(&self, processor: u8, task: u16, at: u64) -> bool
         ensures { IsTrue result ↔ Shows self.now processor task at }
     {
         self.from <= at && at <= self.to && self.shows_processor(processor) && self.shows_task(task)
     }
 
-    /// The part of a run or a slice that is shown, if any of it is.
+    /// Returns the part of a run or a slice that is shown, if any of it is.
     pub fn clip(&self, slice: &Slice) -> Option<Slice>
         ensures { SomeIff result (ShowsPart self.now slice.now) (part_in_window self.now slice.now) }
     {
@@ -108,7 +108,7 @@ impl Window {
         }
     }
 
-    /// The part of a slice that is shown, if there is a slice and any of it is shown.
+    /// Returns the part of a slice that is shown, if there is a slice and any of it is shown.
     pub fn shown_part(&self, slice: Option<Slice>) -> Option<Slice>
         ensures { IsShownPart self.now slice result }
     {
