@@ -72,6 +72,10 @@ MayBeUnproven Access insn = IsAccess insn
 MayBeUnproven Argument insn = TakesArgument insn
 MayBeUnproven Answer insn = IsExit insn
 
+-- an instruction that stores the word may leave the obligation unproven; if the word is no number, the instruction uses a word
+abbrev pub MayBeUnprovenStoring : AbstractValue → Obligation → Insn → Type 0
+MayBeUnprovenStoring word obligation insn = (word.kind ≢ Number → UsesWord insn) → MayBeUnproven obligation insn
+
 -- nothing is known of the register, not even that it is set
 abbrev pub IsUnknownAt : AbstractState → ℕ → Type 0
 IsUnknownAt state r = slice_index_or state.registers r None ≡ None

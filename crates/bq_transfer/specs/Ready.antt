@@ -26,6 +26,7 @@ use Rattle.bq_states.specs.declared.abstract_state.ValueKind.{ValueKind}
 use Rattle.bq_states.specs.declared.abstract_state.AbstractValue.{AbstractValue}
 use Rattle.bq_states.specs.declared.abstract_state.AbstractState.{AbstractState}
 use Rattle.bq_transfer.specs.declared.access.Access.{Access}
+use Rattle.bq_transfer.specs.declared.access.Location.{Location}
 
 -- the first operand of arithmetic is known to be a number; a MOV has no first operand
 abbrev pub IsLeftReady : Operation → AbstractState → ℕ → Type 0
@@ -44,6 +45,19 @@ pub record IsAccessPlaced (shapes : List MapShape) (context : ℕ) (state : Abst
 -- the access is at offset `at` of a region of this kind, and inside it
 abbrev pub IsPlacedAt : List MapShape → ℕ → AbstractState → Access → ValueKind → ℕ → Type 0
 IsPlacedAt shapes context state access kind at = IsAccessPlaced shapes context state access.size access.base access.off kind at
+
+-- each place that the access surely has is the location, which has no other offset
+abbrev pub IsLocation : List MapShape → ℕ → AbstractState → Access → Location → Type 0
+IsLocation shapes context state access p =
+    (kind : ValueKind) (place : ℕ) → IsPlacedAt shapes context state access kind place → (p.kind ≡ kind) × (p.at.lo ≡ place) × (p.at.hi ≡ place)
+
+-- if the access is surely inside the stack, then `holds` is true of its offset there
+abbrev pub IfOnStack : List MapShape → ℕ → AbstractState → Access → (ℕ → Type 0) → Type 0
+IfOnStack shapes context state access holds = (at : ℕ) → IsPlacedAt shapes context state access Stack at → holds at
+
+-- if the access is surely inside an entry of a map, then this holds
+abbrev pub IfInEntry : List MapShape → ℕ → AbstractState → Access → Type 0 → Type 0
+IfInEntry shapes context state access holds = (m at : ℕ) → IsPlacedAt shapes context state access (Entry m) at → holds
 
 -- the load may read its bytes: if they are on the stack, they are set; and no slot of the stack keeps a pointer
 pub record IsLoadReady (shapes : List MapShape) (context : ℕ) (state : AbstractState) (size : Size) (r : ℕ) (off : ℤ) : Type 0 where
@@ -147,6 +161,10 @@ IsReady shapes context state (Branch w c dst src off) =
 IsReady shapes context state (Call helper) =
     (IsHelper Now helper ⊎ IsHelper Processor helper) ⊎ (IsHelper Lookup helper × (m : ℕ) × IsNamingEntry state m) ⊎ (IsHelper Update helper × (m : ℕ) × IsUpdating shapes state m)
 IsReady shapes context state Exit = CertaintyHoldsAt Scalar state 0
+
+-- if the instruction has what it needs, in a program with any maps and any length of context, then this holds
+abbrev pub IfReady : AbstractState → Insn → Type 0 → Type 0
+IfReady state insn holds = (shapes : List MapShape) (context : ℕ) → IsReady shapes context state insn → holds
 
 -- neither a jump nor an EXIT
 abbrev pub IsTransferred : Insn → Type 0

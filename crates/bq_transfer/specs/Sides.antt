@@ -11,6 +11,7 @@ use Rattle.bq_states.specs.declared.abstract_state.ValueKind.{ValueKind}
 use Rattle.bq_states.specs.declared.abstract_state.ValueKind.TheVariants.{Number, Entry, EntryOrNull}
 use Rattle.bq_states.specs.declared.abstract_state.AbstractValue.{AbstractValue}
 use Rattle.bq_bpf.specs.declared.shape.MapShape.{MapShape}
+use Rattle.bq_bpf.specs.Meaning.{taken}
 
 -- whether a test with 0 has found an entry on this side: for Equal the side where the test fails, for NotEqual the side
 -- where it holds
@@ -38,6 +39,10 @@ abbrev pub IsComparableAndTested : ℕ → Bool → Option (Option AbstractValue
 IsComparableAndTested map found None = ⊥
 IsComparableAndTested map found (Some side) = IsTested map found side
 
+-- if the branch tests the answer of a look-up in a map, then `holds` is true of the map
+abbrev pub IfAnswerTested : Width → Condition → AbstractValue → Source → (ℕ → Type 0) → Type 0
+IfAnswerTested w c left src holds = (map : ℕ) → IsNullCheck w c src → CertaintyHolds (Pointer (EntryOrNull map) 0) (Some left) → holds map
+
 -- on one side of a branch on numbers, control never goes there, or the left operand is still a number
 abbrev pub IsNeverOrNumber : Option (Option AbstractValue) → Type 0
 IsNeverOrNumber None = ⊥
@@ -53,3 +58,9 @@ IsNumberIfAny (Some k) = k.kind ≡ Number
 abbrev pub KnownDescribes : List MapShape → Option AbstractValue → ℕ → Type 0
 KnownDescribes shapes None word = ⊥
 KnownDescribes shapes (Some k) word = Describes shapes k word
+
+-- whatever words `left` and `right` describe, if control goes to this side, something is known there of the left one, and it
+-- is right
+abbrev pub FitsSide : Width → Condition → AbstractValue → AbstractValue → Bool → Option AbstractValue → Type 0
+FitsSide w c left right goes side =
+    (shapes : List MapShape) (a b : ℕ) → Describes shapes left a → Describes shapes right b → taken w c a b ≡ goes → KnownDescribes shapes side a

@@ -8,13 +8,9 @@ ghost use Rattle.bq_transfer.specs.Obligations.{MayBeUnproven};
 ghost use Rattle.bq_states.specs.declared.abstract_state.TheConstants.{PLACES};
 ghost use Rattle.bq_states.specs.Certainty.{Scalar, Exact, Pointer, CertaintyHolds, CertaintyHoldsAt, IsScalarOperand, IsGiven, IsMade};
 ghost use Rattle.bq_transfer.specs.After.{CarriesFacts};
-ghost use Rattle.bq_transfer.specs.Ready.{IsReady, IsCopyOfFrame, IsMoveOfPointer};
-ghost use Rattle.bq_bpf.specs.Memory.{State};
-ghost use Rattle.bq_states.specs.Copies.{AreCopies};
-ghost use Rattle.bq_transfer.specs.Transfers.{IsCopied, MovesPointer, Transfers};
+ghost use Rattle.bq_transfer.specs.Ready.{IfReady, IsCopyOfFrame, IsMoveOfPointer};
+ghost use Rattle.bq_transfer.specs.Transfers.{AddsConstant, DescribesResult, LinksCopy, MovesPointer, RelatesSum, TransfersEverywhere};
 ghost use Rattle.bq_states.specs.AbstractStates.{Describes};
-ghost use Rattle.bq_states.specs.Relations.{Relates};
-ghost use Rattle.bq_states.specs.declared.relations.Relation.TheVariants.{Sum};
 ghost use Rattle.bq_ranges.specs.Within.{Within};
 
 use crate::obligation::Obligation;
@@ -32,7 +28,7 @@ pub fn combine(
     a: AbstractValue,
     b: AbstractValue,
 ) -> Option<AbstractValue>
-    ensures describes { IfSome result (λ k. (shapes : List MapShape) (x y : ℕ) → Describes shapes a x → Describes shapes b y → Describes shapes k (alu_result width op x y)) }
+    ensures describes { IfSome result (DescribesResult width op a b) }
     ensures scalar { a.kind ≡ ValueKind.Number → b.kind ≡ ValueKind.Number → CertaintyHolds Scalar result }
     ensures moves { MovesPointer width op (Some a) (Some b) result }
 {
@@ -52,7 +48,7 @@ pub fn combine(
 fn moved(width: Width, op: Operation, a: AbstractValue, b: AbstractValue) -> Option<AbstractValue>
     requires { b.kind ≡ ValueKind.Number }
     ensures moves { MovesPointer width op (Some a) (Some b) result }
-    ensures describes { IfSome result (λ k. (shapes : List MapShape) (x y : ℕ) → Describes shapes a x → Describes shapes b y → Describes shapes k (alu_result width op x y)) }
+    ensures describes { IfSome result (DescribesResult width op a b) }
 {
     match (width, op) {
         (Width::W64, Operation::Add) => Some(AbstractValue {
@@ -70,7 +66,7 @@ fn moved(width: Width, op: Operation, a: AbstractValue, b: AbstractValue) -> Opt
 /// What is known of the result if a pointer is added to a number: the pointer, moved.
 fn added(width: Width, op: Operation, a: AbstractValue, b: AbstractValue) -> Option<AbstractValue>
     requires { a.kind ≡ ValueKind.Number }
-    ensures { IfSome result (λ k. (shapes : List MapShape) (x y : ℕ) → Describes shapes a x → Describes shapes b y → Describes shapes k (alu_result width op x y)) }
+    ensures { IfSome result (DescribesResult width op a b) }
 {
     match (width, op, b.kind) {
         (_, _, ValueKind::EntryOrNull(_) | ValueKind::Map(_)) => None,
@@ -91,9 +87,9 @@ pub fn alu(
     src: Source,
 ) -> Result<(), Obligation>
     requires { dst < 10 }
-    ensures transfers { OnOk result ((shapes : List MapShape) (context_length : ℕ) → Transfers shapes context_length (Alu width op dst src) state.old state.new) }
+    ensures transfers { OnOk result (TransfersEverywhere (Alu width op dst src) state.old state.new) }
     ensures obligations { IfErr result (λ obligation. MayBeUnproven obligation (Alu width op dst src)) }
-    ensures accepts { (shapes : List MapShape) (context : ℕ) → IsReady shapes context state.old (Alu width op dst src) → IsOk result × CarriesFacts (Alu width op dst src) state.old state.new }
+    ensures accepts { IfReady state.old (Alu width op dst src) (IsOk result × CarriesFacts (Alu width op dst src) state.old state.new) }
 {
     if op == Operation::Mov {
         return copy(state, width, dst, src);
@@ -112,7 +108,7 @@ fn operate(
 ) -> Result<(), Obligation>
     requires other { op ≢ Operation.Mov }
     requires below { dst < 10 }
-    ensures transfers { OnOk result ((shapes : List MapShape) (context_length : ℕ) → Transfers shapes context_length (Alu width op dst src) state.old state.new) }
+    ensures transfers { OnOk result (TransfersEverywhere (Alu width op dst src) state.old state.new) }
     ensures obligations { IfErr result (λ obligation. MayBeUnproven obligation (Alu width op dst src)) }
     ensures accepts { CertaintyHoldsAt Scalar state.old dst → IsScalarOperand state.old src → IsOk result × IsGiven state.old state.new dst }
     ensures moves { (m : IsMoveOfPointer state.old width op dst src) → IsOk result × IsMade (Pointer ValueKind.Stack m.at) state.old state.new dst }
@@ -149,7 +145,7 @@ fn constant_added(
     left: AbstractValue,
     right: AbstractValue,
 ) -> Option<u64>
-    ensures { IfSome result (λ more. (shapes : List MapShape) (x y : ℕ) → Describes shapes left x → Describes shapes right y → alu_result width op x y ≡ (x + more) % 2 ^ 64) }
+    ensures { IfSome result (AddsConstant width op left right) }
 {
     if left.kind != ValueKind::Number || right.kind != ValueKind::Number {
         return None;
@@ -185,7 +181,7 @@ fn relate_sum(
     requires register { register < REGISTERS }
     requires room { length classes.old ≡ PLACES }
     requires few { length related.old ≡ RELATIONS }
-    ensures { (s : State) (a : ℕ) (was : AreCopies classes.old related.old s) → s.register register ≡ Some a → (class ≢ 0 → Relates (Sum more) a (was.0 class)) → AreCopies classes.new related.new s }
+    ensures { RelatesSum classes.old related.old classes.new related.new register class more }
 {
     if class == 0 {
         return;
@@ -205,7 +201,7 @@ fn relate_sum(
 /// The abstract state after a move.
 fn copy(state: &mut AbstractState, width: Width, dst: u8, src: Source) -> Result<(), Obligation>
     requires { dst < 10 }
-    ensures transfers { OnOk result ((shapes : List MapShape) (context_length : ℕ) → Transfers shapes context_length (Alu width Operation.Mov dst src) state.old state.new) }
+    ensures transfers { OnOk result (TransfersEverywhere (Alu width Operation.Mov dst src) state.old state.new) }
     ensures obligations { IfErr result (λ obligation. MayBeUnproven obligation (Alu width Operation.Mov dst src)) }
     ensures accepts { IsScalarOperand state.old src → IsOk result × IsGiven state.old state.new dst }
     ensures exact { OnOk result ((i : ℤ) → src ≡ Source.Imm i → width ≡ Width.W64 → IsMade (Exact (word_of i)) state.old state.new dst) }
@@ -243,7 +239,7 @@ fn link_copy(
 )
     requires dst { dst < 10 }
     requires room { length classes.old ≡ PLACES }
-    ensures { (s : State) → AreCopies classes.old related.old s → ((r : ℕ) → src ≡ Source.Reg r → r ≢ dst → IsCopied s dst r width word) → AreCopies classes.new related.new s }
+    ensures { LinksCopy classes.old related.old classes.new related.new width dst src word }
 {
     let Source::Reg(from) = src else {
         return;

@@ -1,15 +1,14 @@
 //! Map references and calls of helpers.
 
-ghost use Rattle.std.specs.Prelude.{◌≡◌, ◌<◌, ◌≤◌, ◌^◌, ◌-◌, ℕ, pos, List, IfSome, IsOk, OnOk, Some, length, IfErr, IsTrue, None, slice_index_or};
+ghost use Rattle.std.specs.Prelude.{◌≡◌, ◌<◌, ◌≤◌, ◌^◌, ◌-◌, ℕ, pos, IfSome, IsOk, OnOk, Some, length, IfErr, IsTrue, None, slice_index_or};
 ghost use Rattle.bq_bpf.specs.Memory.{Setting, State, reference};
 ghost use Rattle.bq_bpf.specs.Steps.{called};
-ghost use Rattle.bq_bpf.specs.declared.shape.MapShape.{MapShape};
 ghost use Rattle.bq_ranges.specs.Within.{Within};
 ghost use Rattle.bq_transfer.specs.Obligations.{MayBeUnproven};
 ghost use Rattle.bq_transfer.specs.After.{CarriesFacts};
 ghost use Rattle.bq_states.specs.Certainty.{IsAnswered, IsCalled, IsMade, Pointer, Scalar, CertaintyHoldsAt};
 ghost use Rattle.bq_transfer.specs.Ready.{IsAtMost, IsReady, IsUpdating, IsNamingEntry};
-ghost use Rattle.bq_transfer.specs.Transfers.{Transfers, IsBelow};
+ghost use Rattle.bq_transfer.specs.Transfers.{IsBelow, Transfers, TransfersEverywhere};
 ghost use Rattle.bq_states.specs.AbstractStates.{AreAlike, Contains};
 
 use crate::obligation::Obligation;
@@ -203,7 +202,7 @@ pub fn answer(state: &mut AbstractState, offset: Range)
 
 /// The abstract state after a call for the time.
 fn now(state: &mut AbstractState)
-    ensures transfers { (shapes : List MapShape) (context_length : ℕ) → Transfers shapes context_length (Insn.Call NOW) state.old state.new }
+    ensures transfers { TransfersEverywhere (Insn.Call NOW) state.old state.new }
     ensures answered { IsAnswered state.old state.new }
 {
     answer(state, Range::full(Width::W64));
@@ -211,7 +210,7 @@ fn now(state: &mut AbstractState)
 
 /// The abstract state after a call for the number of the processor.
 fn processor(state: &mut AbstractState)
-    ensures transfers { (shapes : List MapShape) (context_length : ℕ) → Transfers shapes context_length (Insn.Call PROCESSOR) state.old state.new }
+    ensures transfers { TransfersEverywhere (Insn.Call PROCESSOR) state.old state.new }
     ensures answered { IsAnswered state.old state.new }
 {
     answer(state, Range::full(Width::W32));

@@ -1,13 +1,12 @@
 //! Moves that change a number on the way, and moves of immediates.
 
 ghost use Rattle.bq_insn.specs.declared.TheConstants.{REGISTERS};
-ghost use Rattle.std.specs.Prelude.{◌↔◌, ◌≡◌, ◌<◌, ℕ, List, IsOk, OnOk, IfOk, IfErr, length};
+ghost use Rattle.std.specs.Prelude.{◌↔◌, ◌≡◌, ◌<◌, IsOk, OnOk, IfOk, IfErr, length};
 ghost use Rattle.bq_states.specs.Certainty.{IsGiven, Scalar, CertaintyHoldsAt};
 ghost use Rattle.bq_insn.specs.declared.Insn.{Insn};
-ghost use Rattle.bq_bpf.specs.declared.shape.MapShape.{MapShape};
 ghost use Rattle.bq_transfer.specs.Obligations.{IsNoNumberAt, IsUnknownAt, MayBeUnproven, ReadsOperand, UsesWord};
 ghost use Rattle.bq_states.specs.declared.abstract_state.ValueKind.TheVariants.{Number};
-ghost use Rattle.bq_transfer.specs.Transfers.{Transfers, HoldsNumber};
+ghost use Rattle.bq_transfer.specs.Transfers.{HoldsNumber, TransfersEverywhere};
 ghost use Rattle.bq_states.specs.AbstractStates.{knowing};
 
 use crate::obligation::Obligation;
@@ -60,7 +59,7 @@ pub fn extend(
     src: u8,
 ) -> Result<(), Obligation>
     requires { dst < 10 }
-    ensures transfers { OnOk result ((shapes : List MapShape) (context_length : ℕ) → Transfers shapes context_length (Insn.MovSx width bits dst src) state.old state.new) }
+    ensures transfers { OnOk result (TransfersEverywhere (Insn.MovSx width bits dst src) state.old state.new) }
     ensures obligations { IfErr result (λ obligation. MayBeUnproven obligation (Insn.MovSx width bits dst src)) }
     ensures accepts { CertaintyHoldsAt Scalar state.old src → IsOk result × IsGiven state.old state.new dst }
 {
@@ -72,7 +71,7 @@ pub fn extend(
 /// The abstract state after a negation.
 pub fn negate(state: &mut AbstractState, width: Width, dst: u8) -> Result<(), Obligation>
     requires { dst < 10 }
-    ensures transfers { OnOk result ((shapes : List MapShape) (context_length : ℕ) → Transfers shapes context_length (Insn.Neg width dst) state.old state.new) }
+    ensures transfers { OnOk result (TransfersEverywhere (Insn.Neg width dst) state.old state.new) }
     ensures obligations { IfErr result (λ obligation. MayBeUnproven obligation (Insn.Neg width dst)) }
     ensures accepts { CertaintyHoldsAt Scalar state.old dst → IsOk result × IsGiven state.old state.new dst }
 {
@@ -89,7 +88,7 @@ pub fn reorder(
     dst: u8,
 ) -> Result<(), Obligation>
     requires { dst < 10 }
-    ensures transfers { OnOk result ((shapes : List MapShape) (context_length : ℕ) → Transfers shapes context_length (Insn.End kind bits dst) state.old state.new) }
+    ensures transfers { OnOk result (TransfersEverywhere (Insn.End kind bits dst) state.old state.new) }
     ensures obligations { IfErr result (λ obligation. MayBeUnproven obligation (Insn.End kind bits dst)) }
     ensures accepts { CertaintyHoldsAt Scalar state.old dst → IsOk result × IsGiven state.old state.new dst }
 {
@@ -101,7 +100,7 @@ pub fn reorder(
 /// The abstract state after a 64-bit immediate.
 pub fn immediate(state: &mut AbstractState, dst: u8, value: u64)
     requires { dst < 10 }
-    ensures transfers { (shapes : List MapShape) (context_length : ℕ) → Transfers shapes context_length (Insn.Imm64 dst value) state.old state.new }
+    ensures transfers { TransfersEverywhere (Insn.Imm64 dst value) state.old state.new }
     ensures given { IsGiven state.old state.new dst }
 {
     learn_number(state, dst, Range::single(value));

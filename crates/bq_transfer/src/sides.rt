@@ -5,9 +5,9 @@ ghost use Rattle.bq_insn.specs.declared.Insn.{Insn};
 ghost use Rattle.bq_bpf.specs.Meaning.{taken, word_of};
 ghost use Rattle.bq_bpf.specs.declared.shape.MapShape.{MapShape};
 ghost use Rattle.bq_transfer.specs.Obligations.{MayBeUnproven, UsesWord};
-ghost use Rattle.bq_states.specs.Certainty.{IsWord, Pointer, CertaintyHolds};
+ghost use Rattle.bq_states.specs.Certainty.{IsWord};
 ghost use Rattle.bq_transfer.specs.Ready.{IsNullCheck, IsNullTest};
-ghost use Rattle.bq_transfer.specs.Sides.{IsCompared, IsNumberIfAny, IsNeverOrNumber, IsTested, IsComparableAndTested, is_found, KnownDescribes};
+ghost use Rattle.bq_transfer.specs.Sides.{FitsSide, IfAnswerTested, IsCompared, IsNumberIfAny, IsNeverOrNumber, IsTested, IsComparableAndTested, is_found};
 ghost use Rattle.bq_states.specs.AbstractStates.{Describes};
 
 use crate::obligation::Obligation;
@@ -25,13 +25,13 @@ pub fn side(
     goes: bool,
 ) -> Result<Option<AbstractValue>, Obligation>
     requires { (i : ℤ) → src ≡ Source.Imm i → IsWord (word_of i) (Some right) }
-    ensures fits { IfOk result (λ side. (shapes : List MapShape) (a b : ℕ) → Describes shapes left a → Describes shapes right b → taken width cond a b ≡ goes → KnownDescribes shapes side a) }
+    ensures fits { IfOk result (FitsSide width cond left right goes) }
     ensures obligations { IfErr result (λ obligation. (insn : Insn) → UsesWord insn → MayBeUnproven obligation insn) }
     ensures compared { OnOk result (IsCompared width cond left src right) }
     ensures accepts { left.kind ≡ ValueKind.Number → right.kind ≡ ValueKind.Number → IsOk result }
     ensures number { left.kind ≡ ValueKind.Number → right.kind ≡ ValueKind.Number → IfOk result IsNumberIfAny }
-    ensures checks { (map : ℕ) → IsNullCheck width cond src → CertaintyHolds (Pointer (ValueKind.EntryOrNull map) 0) (Some left) → IsOk result }
-    ensures tested { (map : ℕ) → IsNullCheck width cond src → CertaintyHolds (Pointer (ValueKind.EntryOrNull map) 0) (Some left) → IfOk result (IsTested map (is_found cond goes)) }
+    ensures checks { IfAnswerTested width cond left src (λ map. IsOk result) }
+    ensures tested { IfAnswerTested width cond left src (λ map. IfOk result (IsTested map (is_found cond goes))) }
 {
     match outcome(width, cond, left, src, right, goes) {
         Some(side) => Ok(side),
@@ -70,9 +70,9 @@ fn outcome(
 ) -> Option<Option<AbstractValue>>
     requires { (i : ℤ) → src ≡ Source.Imm i → IsWord (word_of i) (Some right) }
     ensures compared { IfSome result (λ _. IsCompared width cond left src right) }
-    ensures fits { IfSome result (λ side. (shapes : List MapShape) (a b : ℕ) → Describes shapes left a → Describes shapes right b → taken width cond a b ≡ goes → KnownDescribes shapes side a) }
+    ensures fits { IfSome result (FitsSide width cond left right goes) }
     ensures numbers { left.kind ≡ ValueKind.Number → right.kind ≡ ValueKind.Number → IsNeverOrNumber result }
-    ensures tested { (map : ℕ) → IsNullCheck width cond src → CertaintyHolds (Pointer (ValueKind.EntryOrNull map) 0) (Some left) → IsComparableAndTested map (is_found cond goes) result }
+    ensures tested { IfAnswerTested width cond left src (λ map. IsComparableAndTested map (is_found cond goes) result) }
 {
     match (left.kind, right.kind) {
         (ValueKind::Number, ValueKind::Number) => match narrow(
@@ -133,7 +133,7 @@ fn null_check(
     requires null { right.offset.hi ≡ 0 }
     ensures compared { IfSome result (λ _. (width ≡ Width.W64) × IsNullTest cond) }
     ensures tested { width ≡ Width.W64 → IsNullTest cond → left.offset.lo ≡ 0 → IsComparableAndTested map (is_found cond goes) result }
-    ensures fits { IfSome result (λ side. (shapes : List MapShape) (a b : ℕ) → Describes shapes left a → Describes shapes right b → taken width cond a b ≡ goes → KnownDescribes shapes side a) }
+    ensures fits { IfSome result (FitsSide width cond left right goes) }
 {
     let null = AbstractValue {
         kind: ValueKind::Number,

@@ -1,17 +1,14 @@
 //! Stores, and what is known after them.
 
-ghost use Rattle.std.specs.Prelude.{◌≡◌, ◌≢◌, ◌+◌, ◌<◌, ◌≤◌, ◌^◌, ℕ, None, Some, length, IsOk, OnOk, IfOk, IfSome, IfErr};
+ghost use Rattle.std.specs.Prelude.{◌≡◌, ◌<◌, ◌^◌, None, length, IsOk, OnOk, IfOk, IfSome, IfErr};
 ghost use Rattle.bq_insn.specs.declared.Insn.{Insn};
-ghost use Rattle.bq_insn.specs.Slots.{byte_count};
 ghost use Rattle.bq_bpf.specs.Meaning.{word_of};
-ghost use Rattle.bq_bpf.specs.Memory.{State};
 ghost use Rattle.bq_states.specs.declared.abstract_state.TheConstants.{PLACES, STACK_SLOTS};
-ghost use Rattle.bq_states.specs.Copies.{AreCopies};
-ghost use Rattle.bq_transfer.specs.Obligations.{IsAccess, MayBeUnproven, ReadsOperand, UsesWord};
-ghost use Rattle.bq_transfer.specs.Ready.{IsPlacedAt};
+ghost use Rattle.bq_transfer.specs.Obligations.{IsAccess, MayBeUnproven, MayBeUnprovenStoring, ReadsOperand};
+ghost use Rattle.bq_transfer.specs.Ready.{IfInEntry, IfOnStack};
 ghost use Rattle.bq_states.specs.Certainty.{Scalar, CertaintyHoldsAt};
-ghost use Rattle.bq_transfer.specs.Transfers.{IsStored, IsWholeSlot, SlotHolds, Stores, Transfers, WritesStack};
-ghost use Rattle.bq_states.specs.declared.abstract_state.ValueKind.TheVariants.{Entry, Number, Stack};
+ghost use Rattle.bq_transfer.specs.Transfers.{IfNumberInside, IsStored, IsWholeSlot, LinksSlot, Stores, Transfers, WritesStack};
+ghost use Rattle.bq_states.specs.declared.abstract_state.ValueKind.TheVariants.{Number};
 
 use crate::access::{Access, locate};
 use crate::obligation::Obligation;
@@ -38,8 +35,8 @@ pub fn store_imm(
     requires context { context < 2 ^ 16 }
     ensures transfers { OnOk result (Transfers shapes.now context (Insn.StoreImm access.size access.base access.off imm) state.old state.new) }
     ensures obligations { IfErr result (λ obligation. MayBeUnproven obligation (Insn.StoreImm access.size access.base access.off imm)) }
-    ensures accepts { (at : ℕ) → IsPlacedAt shapes.now context state.old access Stack at → IsOk result × IsStored state.old state.new access.size at }
-    ensures entry { (m at : ℕ) → IsPlacedAt shapes.now context state.old access (Entry m) at → IsOk result × (state.new ≡ state.old) }
+    ensures accepts { IfOnStack shapes.now context state.old access (λ at. IsOk result × IsStored state.old state.new access.size at) }
+    ensures entry { IfInEntry shapes.now context state.old access (IsOk result × (state.new ≡ state.old)) }
 {
     let word = AbstractValue {
         kind: ValueKind::Number,
@@ -68,8 +65,8 @@ pub fn store_reg(
     requires context { context < 2 ^ 16 }
     ensures transfers { OnOk result (Transfers shapes.now context (Insn.StoreReg access.size access.base access.off src) state.old state.new) }
     ensures obligations { IfErr result (λ obligation. MayBeUnproven obligation (Insn.StoreReg access.size access.base access.off src)) }
-    ensures accepts { CertaintyHoldsAt Scalar state.old src → (at : ℕ) → IsPlacedAt shapes.now context state.old access Stack at → IsOk result × IsStored state.old state.new access.size at }
-    ensures entry { CertaintyHoldsAt Scalar state.old src → (m at : ℕ) → IsPlacedAt shapes.now context state.old access (Entry m) at → IsOk result × (state.new ≡ state.old) }
+    ensures accepts { CertaintyHoldsAt Scalar state.old src → IfOnStack shapes.now context state.old access (λ at. IsOk result × IsStored state.old state.new access.size at) }
+    ensures entry { CertaintyHoldsAt Scalar state.old src → IfInEntry shapes.now context state.old access (IsOk result × (state.new ≡ state.old)) }
 {
     let Some(word) = known(state, src) else {
         return Err(Obligation::Unset);
@@ -83,7 +80,7 @@ pub fn store_reg(
 fn link_slot(classes: &mut [u8], related: &mut [Option<Related>], slot: Option<usize>, register: u8)
     requires room { length classes.old ≡ PLACES }
     requires inside { IfSome slot (λ n. n < STACK_SLOTS) }
-    ensures copies { (s : State) (word : ℕ) → AreCopies classes.old related.old s → s.register register ≡ Some word → SlotHolds s slot word → AreCopies classes.new related.new s }
+    ensures copies { LinksSlot classes.old related.old classes.new related.new slot register }
     ensures none { slot ≡ None → classes.new ≡ classes.old }
     ensures unrelated { slot ≡ None → related.new ≡ related.old }
 {
@@ -108,9 +105,9 @@ fn store(
     requires context { context < 2 ^ 16 }
     ensures stores { IfOk result (Stores shapes.now context access.base access.off access.size word state.old state.new) }
     ensures inside { IfOk result (λ slot. IfSome slot (λ n. n < STACK_SLOTS)) }
-    ensures obligations { IfErr result (λ obligation. (insn : Insn) → IsAccess insn → ReadsOperand insn → (word.kind ≢ Number → UsesWord insn) → MayBeUnproven obligation insn) }
-    ensures accepts { word.kind ≡ Number → (at : ℕ) → IsPlacedAt shapes.now context state.old access Stack at → IsOk result × IsStored state.old state.new access.size at }
-    ensures entry { word.kind ≡ Number → (m at : ℕ) → IsPlacedAt shapes.now context state.old access (Entry m) at → IsOk result × (state.new ≡ state.old) × IfOk result (λ n. n ≡ None) }
+    ensures obligations { IfErr result (λ obligation. (insn : Insn) → IsAccess insn → ReadsOperand insn → MayBeUnprovenStoring word obligation insn) }
+    ensures accepts { word.kind ≡ Number → IfOnStack shapes.now context state.old access (λ at. IsOk result × IsStored state.old state.new access.size at) }
+    ensures entry { word.kind ≡ Number → IfInEntry shapes.now context state.old access (IsOk result × (state.new ≡ state.old) × IfOk result (λ n. n ≡ None)) }
 {
     let found = locate(state, shapes, context, access)?;
     match found.kind {
@@ -135,8 +132,8 @@ fn store_on_stack(
 ) -> Result<Option<usize>, Obligation>
     ensures slot { IfOk result (λ slot. IfSome slot (IsWholeSlot at size)) }
     ensures contains { OnOk result (WritesStack state.old state.new at size word) }
-    ensures obligations { IfErr result (λ obligation. (insn : Insn) → IsAccess insn → (word.kind ≢ Number → UsesWord insn) → MayBeUnproven obligation insn) }
-    ensures accepts { word.kind ≡ Number → (place : ℕ) → at.lo ≡ place → at.hi ≡ place → place + byte_count size ≤ STACK_SIZE → IsOk result × IsStored state.old state.new size place }
+    ensures obligations { IfErr result (λ obligation. (insn : Insn) → IsAccess insn → MayBeUnprovenStoring word obligation insn) }
+    ensures accepts { IfNumberInside word at size (λ place. IsOk result × IsStored state.old state.new size place) }
 {
     if !stays(at, size, STACK_SIZE as usize) {
         return Err(Obligation::Access);
