@@ -1,6 +1,8 @@
 -- What each event keeps of every processor: its queue rises, and whatever stands at its hooks may stand there.
-use Rattle.std.proofs.Common.{◌≡◌, ℕ, zero, suc, Bool, true, false, List, [], ◌∷◌, Option, Some, None, refl, sym, subst, get_or, set}
+use Rattle.std.proofs.Common.{◌≡◌, ◌≢◌, ◌<◌, ℕ, zero, suc, inl, inr, Bool, true, false, List, [], ◌∷◌, length, Option, Some, None, refl, sym, subst, get_or, set}
 use Rattle.std.specs.Prelude.{◌==◌}
+use Rattle.std.proofs.lemmas.Bool.{cases_eq}
+use Rattle.std.proofs.lemmas.List.{get_or-set_other, get_or-set_same}
 use Rattle.bq_disc.specs.Tasks.{Task, find_task, without, inserted, id_of}
 use Rattle.bq_disc.specs.Rising.{IsRising}
 use Rattle.bq_disc.specs.Discipline.{Discipline, woken, pulled, next_of}
@@ -41,6 +43,15 @@ at_set Q (y ∷ ys) zero x d q h zero = q
 at_set Q (y ∷ ys) zero x d q h (suc j) = h (suc j)
 at_set Q (y ∷ ys) (suc i) x d q h zero = h zero
 at_set Q (y ∷ ys) (suc i) x d q h (suc j) = at_set (λ n. Q (suc n)) ys i x d q (λ n. h (suc n)) j
+
+-- a fact of each place of a list, after one place was written, where it may have been false
+pub at_set_else : {X : Type 0} (Q : ℕ → X → Type 0) (xs : List X) (i : ℕ) (x d : X)
+    → i < length xs → Q i x → ((j : ℕ) → j ≢ i → Q j (get_or xs j d))
+    → (j : ℕ) → Q j (get_or (set xs i x) j d)
+at_set_else Q xs i x d low here others j = elim (cases_eq j i) [
+  | inl same ↦ subst (λ n. Q n (get_or (set xs i x) n d)) (sym same) (subst (Q i) (sym (get_or-set_same xs i x d low)) here)
+  | inr apart ↦ subst (Q j) (sym (get_or-set_other xs i j x d apart)) (others j apart)
+]
 
 -- a processor is written
 pub well_at : (w : World) (processor : ℕ) (q : Processor) → AllWell w → IsWell q → AllWell (with_processor w processor q)

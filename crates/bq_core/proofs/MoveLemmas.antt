@@ -38,10 +38,10 @@ tally-with_pulled g d p None = omega arith
 tally-with_pulled g d p (Some t) =
     omega (arith, tally-inserted g (pulled d p.mark t) p.queue, tally-present g p.current p.queue (inserted (pulled d p.mark t) p.queue))
 
--- a task that enters doesn't run
-current_kept : (d : Discipline) (p : Running) (o : Option Task) → (with_pulled d p o).current ≡ p.current
-current_kept d p None = refl
-current_kept d p (Some t) = refl
+-- a task that enters does not run
+pub with_pulled-current : (d : Discipline) (p : Running) (o : Option Task) → (with_pulled d p o).current ≡ p.current
+with_pulled-current d p None = refl
+with_pulled-current d p (Some t) = refl
 
 -- who begins to run stays
 tally-started : (g : ℕ → ℕ → ℕ) (d : Discipline) (p : Running) (o : Option Task)
@@ -52,4 +52,4 @@ tally-started g d p (Some t) e = refl
 -- the task that enters comes to those that were there, where the queue's choice then runs
 pub tally-pulled : (g : ℕ → ℕ → ℕ) (d : Discipline) (p : Running) (o : Option Task)
     → tally g (present_at (started_if_idle d (with_pulled d p o) p.current)) ≡ tally g (present_at p) + tally g (option_to_list o)
-tally-pulled g d p o = tally-started g d (with_pulled d p o) p.current (current_kept d p o) ∙ tally-with_pulled g d p o
+tally-pulled g d p o = tally-started g d (with_pulled d p o) p.current (with_pulled-current d p o) ∙ tally-with_pulled g d p o

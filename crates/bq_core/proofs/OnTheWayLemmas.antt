@@ -16,7 +16,7 @@ use Rattle.bq_parts.specs.Refusals.{is_away}
 use Rattle.bq_hooks.specs.Contexts.{as_number}
 use Rattle.bq_hooks.specs.OwnPlace.{HasPlace}
 use Rattle.bq_parts.specs.StandsOnce.{held_count, placed_count, standing_count, runnable_at, IsOrderly}
-use Rattle.bq_core.proofs.EachProcessorLemmas.{AllWell, at_set}
+use Rattle.bq_core.proofs.EachProcessorLemmas.{AllWell, at_set, at_set_else}
 use Rattle.bq_core.proofs.SuitableTaskLemmas.{unsuited, Suits, none_unsuited, all_suit}
 use Rattle.bq_parts.proofs.TallyLemmas.{tally, tally-append}
 use Rattle.bq_parts.proofs.CountLemmas.{one, ones, one_self, count_of-tally}
@@ -87,16 +87,6 @@ orderly_of w y well =
 -- an orderly world's processors are well
 pub well_of : (w : World) → IsOrderly w → AllWell w
 well_of w o processor = record { rising = o.rising processor; ready = o.ready processor }
-
--- a fact of each place of a list, after one place was written, where it may have been false
-at_set_else : {X : Type 0} (Q : ℕ → X → Type 0) (xs : List X) (i : ℕ) (x d : X)
-    → i < length xs → Q i x → ((j : ℕ) → j ≢ i → Q j (get_or xs j d))
-    → (j : ℕ) → Q j (get_or (set xs i x) j d)
-at_set_else Q [] i x d l q h j = absurd (omega arith)
-at_set_else Q (y ∷ ys) zero x d l q h zero = q
-at_set_else Q (y ∷ ys) zero x d l q h (suc j) = h (suc j) (omega arith)
-at_set_else Q (y ∷ ys) (suc i) x d l q h zero = h zero (omega arith)
-at_set_else Q (y ∷ ys) (suc i) x d l q h (suc j) = at_set_else (λ n. Q (suc n)) ys i x d (omega arith) q (λ n e. h (suc n) (omega arith)) j
 
 -- a processor's tasks leave the count, and those of the new one come
 pub held_count-set : (id : ℕ) (ps : List Processor) (processor : ℕ) (q : Processor)

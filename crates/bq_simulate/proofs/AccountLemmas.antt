@@ -13,16 +13,12 @@ use Rattle.bq_workload.specs.declared.periods.Periods.{Periods}
 use Rattle.bq_workload.specs.Accounts.{Accounts, changed_at, accounts_charged, runner_charged, grown, idled, is_same, occupied, of_processor, of_task, shrunk, accounts_switched, taken_over}
 use Rattle.bq_workload.specs.TaskProgress.{moved_to, run_for, progress_woken}
 use Rattle.bq_workload.specs.Dues.{size_at}
-use Rattle.bq_workload.proofs.AgreeLemmas.{changed_at-here, changed_at-others, some_or_none}
+use Rattle.bq_workload.proofs.AgreeLemmas.{changed_at-here, changed_at-none, changed_at-others, some_or_none}
 use Rattle.bq_simulate.specs.Agreement.{runner_at, state_at}
 
 -- what is read at a place of some list
 abbrev pub read : {A B : Type 0} → (A → B) → B → List A → ℕ → B
 read v d xs k = option_map_or v (slice_get xs k) d
-
--- where nothing stands at a place nothing is changed
-pub unchanged : {A : Type 0} (f : A → A) (xs : List A) (n : ℕ) → slice_get xs n ≡ None → changed_at f xs n ≡ xs
-unchanged {A} f xs n h = ap (λ (o : Option A). option_map_or (λ (y : A). slice_set xs n (f y)) o xs) h
 
 -- what a change leaves as it is can be read as before
 pub read_kept : {A B : Type 0} (f : A → A) (v : A → B) (d : B)
@@ -30,7 +26,7 @@ pub read_kept : {A B : Type 0} (f : A → A) (v : A → B) (d : B)
 read_kept {A} {B} f v d same xs n k = elim (cases_eq k n) [
   | inr other ↦ ap (λ (o : Option A). option_map_or v o d) (changed_at-others f xs n k other)
   | inl here ↦ elim (some_or_none (slice_get xs n)) [
-    | inl none ↦ ap (λ (ys : List A). read v d ys k) (unchanged f xs n none)
+    | inl none ↦ ap (λ (ys : List A). read v d ys k) (changed_at-none f xs n none)
     | inr (x, is) ↦
         let new : slice_get (changed_at f xs n) k ≡ Some (f x) = ap (slice_get (changed_at f xs n)) here ∙ changed_at-here f xs n x is in
         let old : slice_get xs k ≡ Some x = ap (slice_get xs) here ∙ is in

@@ -1,5 +1,5 @@
 -- An admission that a world takes.
-use Rattle.std.proofs.Common.{◌≡◌, ◌≢◌, ℕ, zero, suc, ◌+◌, ◌-◌, ◌*◌, ◌/◌, ◌%◌, ◌^◌, ◌<◌, ◌≤◌, inl, inr, Bool, true, List, [], ◌∷◌, ◌++◌, length, Option, Some, None, refl, sym, subst, ap, ◌∙◌, arith}
+use Rattle.std.proofs.Common.{◌≡◌, ℕ, ◌+◌, ◌-◌, ◌*◌, ◌/◌, ◌%◌, ◌^◌, ◌<◌, ◌≤◌, inl, inr, Bool, true, List, [], length, Option, Some, None, refl, sym, subst, ap, ◌∙◌, arith}
 use Rattle.std.specs.Prelude.{◌&&◌, nat_le, nat_lt, Ok, slice_get, slice_set}
 use Rattle.std.specs.Option.{option_map_or}
 use Rattle.std.proofs.lemmas.Bool.{and_parts, cases_eq, eqb-true, le-ltb, leb-true, lt-leb, ne_eqb, or_from}
@@ -29,9 +29,11 @@ use Rattle.bq_workload.specs.Accounts.{Accounts}
 use Rattle.bq_workload.specs.Soundness.{goes_round, has_numbers}
 use Rattle.bq_workload.specs.Lengths.{longest}
 use Rattle.bq_workload.specs.TaskProgress.{fresh_task}
+use Rattle.bq_workload.proofs.DueLemmas.{appended, appended_others}
+use Rattle.bq_core.proofs.EachProcessorLemmas.{at_set_else}
 use Rattle.bq_simulate.specs.Agreement.{AgreesWith, HaveProcessors, StandsAs, state_at}
 use Rattle.bq_simulate.specs.AgreementLaws.{AdmissionsAreTaken, accounts_with_task}
-use Rattle.bq_simulate.proofs.MirrorLemmas.{agree_after, at_set_else}
+use Rattle.bq_simulate.proofs.MirrorLemmas.{agree_after}
 
 -- the numbers of a kind, as an admission asks for them
 pub record HasNumbers (kind : TaskKind) : Type 0 where
@@ -77,18 +79,6 @@ mask_has : (mask home count : ℕ) → home < count → allows mask home ≡ tru
 mask_has mask home count low h z =
     let e : count ≡ (count - home - 1 + 1) + home = omega arith in
     mask_has_more mask home (count - home - 1) h (subst (λ n. mask % 2 ^ n ≡ 0) e z)
-
--- one more at the end of a list
-pub appended : {A : Type 0} (xs : List A) (x : A) → slice_get (xs ++ x ∷ []) (length xs) ≡ Some x
-appended [] x = refl
-appended (y ∷ ys) x = appended ys x
-
--- what stands before one more at the end of a list stays
-pub appended_others : {A : Type 0} (xs : List A) (x : A) (k : ℕ) → k ≢ length xs → slice_get (xs ++ x ∷ []) k ≡ slice_get xs k
-appended_others [] x zero h = absurd (h refl)
-appended_others [] x (suc k) h = refl
-appended_others (y ∷ ys) x zero h = refl
-appended_others (y ∷ ys) x (suc k) h = appended_others ys x k (λ e. h (ap suc e))
 
 -- the state of one of some tasks
 abbrev state_of : Option TaskProgress → Option TaskState

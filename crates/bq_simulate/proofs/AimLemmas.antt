@@ -10,10 +10,10 @@ use Rattle.bq_workload.specs.declared.workload.Workload.{Workload}
 use Rattle.bq_workload.specs.Kinds.{kind_count, tasks_in}
 use Rattle.bq_workload.specs.TaskProgress.{fresh_task}
 use Rattle.bq_workload.proofs.AgreeLemmas.{some_or_none}
+use Rattle.bq_workload.proofs.SoundLemmas.{sound-few}
 use Rattle.bq_simulate.specs.declared.simulation.Simulation.{Simulation}
 use Rattle.bq_simulate.specs.Actions.{first_task_of}
 use Rattle.bq_simulate.specs.GoingWell.{SimulationGoesWell}
-use Rattle.bq_simulate.proofs.SoundKindLemmas.{sound_tasks}
 
 -- the tasks of a kind, and those before it, are among all
 kind_within : (kinds : List TaskKind) (number : ℕ) → first_task_of kinds number + kind_count kinds number ≤ tasks_in kinds
@@ -48,7 +48,7 @@ aim_low w now kind woken first s h low at = omega (arith, h.firsts kind first at
 pub aim_counted : (w : Workload) (now kind woken first : ℕ) (s : Simulation)
     → SimulationGoesWell w now s → woken < kind_count w.tasks.items kind → slice_get s.firsts.items kind ≡ Some first
     → first + woken < 1024
-aim_counted w now kind woken first s h low at = omega (arith, aim_low w now kind woken first s h low at, sound_tasks w h.sound)
+aim_counted w now kind woken first s h low at = omega (arith, aim_low w now kind woken first s h low at, sound-few w h.sound)
 
 -- the task that a wake wakes next is there, and 16 bits count it
 pub aim_there : (w : Workload) (now kind woken first : ℕ) (s : Simulation)

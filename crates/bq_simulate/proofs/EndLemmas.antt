@@ -1,5 +1,5 @@
 -- A phase that ends next while a simulation goes well has got all that it takes, and its task finds all that its next action takes.
-use Rattle.std.proofs.Common.{◌≡◌, ℕ, ◌+◌, ◌-◌, ◌<◌, ◌≤◌, inl, inr, true, false, List, [], ◌∷◌, length, Option, Some, None, refl, sym, subst, ap, ◌∙◌, arith}
+use Rattle.std.proofs.Common.{◌≡◌, ℕ, ◌+◌, ◌-◌, ◌<◌, ◌≤◌, inl, inr, true, false, List, [], length, Option, Some, None, refl, sym, subst, ap, ◌∙◌, arith}
 use Rattle.std.specs.Prelude.{◌⊎◌, option_and_then, slice_get}
 use Rattle.std.specs.Option.{option_map_or}
 use Rattle.std.proofs.lemmas.Bool.{eq-eqb, ltb-true, true≢false}
@@ -24,18 +24,19 @@ use Rattle.bq_workload.specs.Strays.{IsStrayEnd, IsStrayProgress, NoneIsDone}
 use Rattle.bq_workload.specs.TaskProgress.{run_for}
 use Rattle.bq_workload.proofs.AgreeLemmas.{changed_at-here, some_or_none}
 use Rattle.bq_workload.proofs.AgreedLemmas.{charged-is, end-of}
+use Rattle.bq_workload.proofs.SoundLemmas.{sound-few}
 use Rattle.bq_simulate.specs.declared.simulation.Simulation.{Simulation}
 use Rattle.bq_simulate.specs.Actions.{acted, action_at, action_count, asked_by, next_action}
 use Rattle.bq_simulate.specs.Agreement.{AgreesWith, IsOnTime, ProcessorIsOnTime, RunsOnTime}
 use Rattle.bq_simulate.specs.Kept.{StandsAtAction}
 use Rattle.bq_simulate.specs.GoingWell.{SimulationGoesWell, IsStrayAction}
-use Rattle.bq_simulate.specs.Simulations.{streams_after}
 use Rattle.bq_simulate.proofs.AccountLemmas.{charged_there}
 use Rattle.bq_simulate.proofs.MeetAgreeLemmas.{advanced_home, agrees_charged, woken_one_home, world_of}
 use Rattle.bq_simulate.proofs.MeetTimeLemmas.{acted_got}
-use Rattle.bq_simulate.proofs.SoundKindLemmas.{sound_kind, sound_tasks, sound_times}
+use Rattle.bq_simulate.proofs.SoundKindLemmas.{sound_kind, sound_times}
 use Rattle.bq_simulate.proofs.StandingLemmas.{AllStand, charged_keeps, else_of, standing_of_places}
 use Rattle.bq_simulate.proofs.StraySwitchLemmas.{no_stray_charge}
+use Rattle.bq_simulate.proofs.StreamLemmas.{streams_count}
 use Rattle.bq_simulate.proofs.TimeKeptLemmas.{charged_tasks}
 use Rattle.bq_simulate.proofs.TimeLemmas.{until_is}
 use Rattle.bq_disc.specs.declared.clock.TheConstants.{LATEST}
@@ -114,11 +115,6 @@ no_stray_end w now processor s h next astray =
 
 -- The task whose phase has ended
 
--- there are as many streams as counts of the lengths that they have given
-streams_count : (seed first : ℕ) (drawn : List ℕ) → length (streams_after seed first drawn) ≡ length drawn
-streams_count seed first [] = refl
-streams_count seed first (n ∷ ns) = omega (arith, streams_count seed (first + 1) ns)
-
 -- a task whose phase has ended at a processor stands at an action, has a stream, and was last there
 pub record HasEnded (w : Workload) (processor task : ℕ) (c : TaskProgress) (s : Simulation) : Type 0 where
   pub stands : StandsAtAction w.tasks.items task c
@@ -147,7 +143,7 @@ has_ended w now processor task c s r h agrees counted done =
       home = ap (λ (x : TaskProgress). x.home) (same_Some c home.progress (sym done.there ∙ home.there)) ∙ home.home;
       processors =
           omega (arith, slice_get_within a.by_processor processor at.processor_state at.at, world.mirrors.processors.many, h.kept.few);
-      tasks = omega (arith, low, h.kept.all, sound_tasks w h.sound);
+      tasks = omega (arith, low, h.kept.all, sound-few w h.sound);
       stream = omega (arith, low, h.kept.standing.streams, streams_count s.seed 0 h.drawn, ap (λ (l : List Lcg). length l) h.streams);
     }
 

@@ -17,10 +17,10 @@ use Rattle.bq_parts.specs.Steps.{WorldStep}
 use Rattle.bq_parts.specs.World.{World, count_in, opening_world, processor_at, with_processor}
 use Rattle.bq_verify.specs.Accepted.{Accepted}
 use Rattle.bq_core.proofs.OnTheWayLemmas.{same_everywhere}
+use Rattle.bq_core.proofs.EachProcessorLemmas.{at_set_else}
 use Rattle.bq_parts.proofs.RefusalLemmas.{accepted, not_refused_is_there}
 use Rattle.bq_simulate.specs.Kept.{IsNewerFrom, WereDrawn}
 use Rattle.bq_simulate.specs.KeptLaws.{GenerationsAreNewer}
-use Rattle.bq_simulate.proofs.MirrorLemmas.{at_set_else}
 
 -- the generation that stands at a hook of a processor
 abbrev generation_at : World → ℕ → Hook → ℕ

@@ -6,9 +6,8 @@ use Rattle.std.proofs.lemmas.List.Sums.{sum_by-cons}
 use Rattle.std.proofs.lemmas.Option.{none-some, same_Some}
 use Rattle.bq_workload.specs.declared.progress.TaskProgress.{TaskProgress}
 use Rattle.bq_workload.specs.Accounts.{changed_at}
-use Rattle.bq_workload.proofs.AgreeLemmas.{some_or_none}
+use Rattle.bq_workload.proofs.AgreeLemmas.{changed_at-none, some_or_none}
 use Rattle.bq_simulate.specs.AtOnce.{in_all}
-use Rattle.bq_simulate.proofs.AccountLemmas.{unchanged}
 
 -- Over processors, or what else stands in a list
 
@@ -31,7 +30,7 @@ sum-changed {A} g f xs n x at =
 pub sum-no_more : {A : Type 0} (g : A → ℕ) (f : A → A) (xs : List A) (n : ℕ)
     → ((x : A) → slice_get xs n ≡ Some x → g (f x) ≤ g x) → sum_by g (changed_at f xs n) ≤ sum_by g xs
 sum-no_more {A} g f xs n less = elim (some_or_none (slice_get xs n)) [
-  | inl none ↦ let is : sum_by g (changed_at f xs n) ≡ sum_by g xs = ap (sum_by g) (unchanged f xs n none) in omega (arith, is)
+  | inl none ↦ let is : sum_by g (changed_at f xs n) ≡ sum_by g xs = ap (sum_by g) (changed_at-none f xs n none) in omega (arith, is)
   | inr (x, at) ↦ omega (arith, sum-changed g f xs n x at, less x at)
 ]
 

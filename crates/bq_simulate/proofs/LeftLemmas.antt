@@ -15,10 +15,10 @@ use Rattle.bq_workload.specs.declared.workload.TaskKind.{TaskKind}
 use Rattle.bq_workload.specs.Accounts.{Accounts, changed_at, accounts_charged, idled, is_same, occupied, of_processor, of_task, accounts_passed, accounts_switched, taken_over}
 use Rattle.bq_workload.specs.Dues.{next_multiple}
 use Rattle.bq_workload.specs.TaskProgress.{lengthened, migrates_to, moved_to, run_for}
-use Rattle.bq_workload.proofs.AgreeLemmas.{changed_at-here, changed_at-others, some_or_none}
+use Rattle.bq_workload.proofs.AgreeLemmas.{changed_at-here, changed_at-none, changed_at-others, some_or_none}
 use Rattle.bq_workload.proofs.AgreedLemmas.{both, charged-is, counted, since_now}
 use Rattle.bq_simulate.specs.AtOnce.{in_all, steps_left_at, left_in, left_of_processor, left_of_task, steps_ahead, uncounted, uncounted_at}
-use Rattle.bq_simulate.proofs.AccountLemmas.{changed_at-length, charged_there, unchanged}
+use Rattle.bq_simulate.proofs.AccountLemmas.{changed_at-length, charged_there}
 use Rattle.bq_simulate.proofs.InAllLemmas.{in_all-less, in_all-no_more, sum-changed, sum-no_more}
 
 -- the next multiple comes later
@@ -136,7 +136,7 @@ sized-left kinds now g processor a =
       | inl none ↦
           let is : steps_left_at kinds now (of_processor f processor a) ≡ steps_left_at kinds now a =
           ap (λ (ls : List ProcessorState). steps_left_at kinds now (both a.by_task ls))
-          (unchanged f a.by_processor processor none) in
+          (changed_at-none f a.by_processor processor none) in
           omega (arith, is)
       | inr (l, at) ↦ omega (arith, processor-left kinds now f processor a l at (λ task. omega arith))
     ]

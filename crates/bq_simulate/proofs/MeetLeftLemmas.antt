@@ -38,6 +38,7 @@ use Rattle.bq_workload.specs.Next.{IsNextDue, comes_at}
 use Rattle.bq_workload.specs.Soundness.{first_flaw}
 use Rattle.bq_workload.specs.TaskProgress.{progress_woken}
 use Rattle.bq_workload.proofs.AgreeLemmas.{changed_at-here, some_or_none}
+use Rattle.bq_core.proofs.MoveLemmas.{with_pulled-current}
 use Rattle.bq_simulate.specs.declared.driver.Driver.{Driver}
 use Rattle.bq_simulate.specs.Actions.{acted, asked_by, next_action}
 use Rattle.bq_simulate.specs.Agreement.{AgreesWith, can_run, runner_at}
@@ -109,11 +110,6 @@ tick-takes kinds seed periods d e b c processor now deeds reported some (more, i
     ]
 
 -- Looks
-
--- a task that runs goes on where its processor pulls another
-with_pulled-current : (d : Discipline) (p : Running) (o : Option Task) → (with_pulled d p o).current ≡ p.current
-with_pulled-current d p None = refl
-with_pulled-current d p (Some t) = refl
 
 -- a processor that runs nothing, even after it could start a task, ran nothing before
 started-none : (d : Discipline) (p : Running) (o : Option Task)

@@ -1,9 +1,9 @@
 -- How accounts that mirror a world mirror the one that an event leaves.
-use Rattle.std.proofs.Common.{◌≡◌, ◌≢◌, ℕ, ◌-◌, ◌<◌, inl, inr, Bool, true, false, cond, List, [], ◌∷◌, length, Option, Some, None, refl, sym, subst, ap, ◌∙◌, arith, get_or, set}
+use Rattle.std.proofs.Common.{◌≡◌, ℕ, ◌-◌, ◌<◌, inl, inr, Bool, true, false, cond, List, [], ◌∷◌, length, Option, Some, None, refl, sym, subst, ap, ◌∙◌, arith, get_or}
 use Rattle.std.specs.Prelude.{Ok, slice_get, if◌then◌else◌}
 use Rattle.std.specs.Option.{option_map_or}
-use Rattle.std.proofs.lemmas.Bool.{cases_eq, lt-leb}
-use Rattle.std.proofs.lemmas.List.{get_or-set_other, get_or-set_same, length-set}
+use Rattle.std.proofs.lemmas.Bool.{lt-leb}
+use Rattle.std.proofs.lemmas.List.{length-set}
 use Rattle.std.proofs.lemmas.Option.{slice_get-get_or}
 use Rattle.bq_bpf.specs.declared.board.CounterCall.{CounterCall}
 use Rattle.bq_disc.specs.Tasks.{Task, id_of}
@@ -19,7 +19,7 @@ use Rattle.bq_parts.specs.Refusals.{first_refusal, no_processor}
 use Rattle.bq_parts.specs.StandsOnce.{IsOrderly}
 use Rattle.bq_parts.specs.Steps.{WorldStep}
 use Rattle.bq_parts.proofs.TallyLemmas.{tally, tally-charge, tally-decided}
-use Rattle.bq_core.proofs.EachProcessorLemmas.{at_set}
+use Rattle.bq_core.proofs.EachProcessorLemmas.{at_set, at_set_else}
 use Rattle.bq_core.proofs.OrderLemmas.{step_keeps}
 use Rattle.bq_core.proofs.SizeLemmas.{step_count}
 use Rattle.bq_workload.specs.declared.progress.TaskProgress.{TaskProgress}
@@ -31,15 +31,6 @@ use Rattle.bq_workload.specs.Dues.{size_at}
 use Rattle.bq_workload.proofs.AgreedLemmas.{stood_before_change}
 use Rattle.bq_simulate.specs.Agreement.{AgreesWith, HaveProcessors, IsSettled, Mirrors, RunsAs, StandsAs, runner_at, state_at}
 use Rattle.bq_simulate.proofs.AccountLemmas.{Reads}
-
--- a fact of each place of a list, after one place was written, where it may have been false
-pub at_set_else : {X : Type 0} (Q : ℕ → X → Type 0) (xs : List X) (i : ℕ) (x d : X)
-    → i < length xs → Q i x → ((j : ℕ) → j ≢ i → Q j (get_or xs j d))
-    → (j : ℕ) → Q j (get_or (set xs i x) j d)
-at_set_else Q xs i x d low here others j = elim (cases_eq j i) [
-  | inl same ↦ subst (λ n. Q n (get_or (set xs i x) n d)) (sym same) (subst (Q i) (sym (get_or-set_same xs i x d low)) here)
-  | inr apart ↦ subst (Q j) (sym (get_or-set_other xs i j x d apart)) (others j apart)
-]
 
 -- how many some tasks are
 abbrev pub each : ℕ → ℕ → ℕ

@@ -1,5 +1,5 @@
 -- A simulation that opens well.
-use Rattle.std.proofs.Common.{◌≡◌, ℕ, suc, ◌+◌, ◌<◌, List, [], ◌∷◌, length, None, Some, refl, sym, subst, ap, ◌∙◌, arith}
+use Rattle.std.proofs.Common.{◌≡◌, ℕ, ◌+◌, ◌<◌, List, [], ◌∷◌, length, None, Some, refl, sym, subst, ap, ◌∙◌, arith}
 use Rattle.std.specs.Prelude.{slice_get}
 use Rattle.bq_parts.specs.declared.event.Event.TheVariants.{Draw, Install}
 use Rattle.bq_parts.specs.declared.reply.Reply.TheVariants.{Drawn}
@@ -14,6 +14,7 @@ use Rattle.bq_workload.specs.declared.workload.Workload.{Workload}
 use Rattle.bq_workload.specs.Accounts.{Accounts}
 use Rattle.bq_workload.specs.Kinds.{tasks_in}
 use Rattle.bq_workload.specs.Soundness.{first_flaw}
+use Rattle.bq_workload.proofs.SoundLemmas.{sound-few}
 use Rattle.bq_simulate.specs.declared.driver.Driver.{Driver}
 use Rattle.bq_simulate.specs.declared.simulation.Simulation.{Simulation}
 use Rattle.bq_simulate.specs.Actions.{first_task_of}
@@ -22,15 +23,15 @@ use Rattle.bq_simulate.specs.Drives.{Starts}
 use Rattle.bq_simulate.specs.Kept.{HasAllFirsts, StandAtActions, WereDrawn}
 use Rattle.bq_simulate.specs.KeptLaws.{DeedsLeadIn}
 use Rattle.bq_simulate.specs.GoingWell.{SimulationGoesWell, IsOpening, OpensWell, StartsWell}
-use Rattle.bq_simulate.specs.Simulations.{GoesOnForAnyKinds, GoesOnBy, GoesOnFromBook, GoesOnUnreported, book_of, opening_book, periods_of, streams_after, with_seed}
+use Rattle.bq_simulate.specs.Simulations.{GoesOnForAnyKinds, GoesOnBy, GoesOnFromBook, GoesOnUnreported, book_of, opening_book, periods_of, with_seed}
 use Rattle.bq_simulate.specs.Steps.{AreAdmitted, AreInstalled, AreJustEvents, all_processors, installs_of}
 use Rattle.bq_simulate.proofs.DeedLemmas.{GoesOnBy-unreported}
 use Rattle.bq_simulate.proofs.GenerationLemmas.{generations_are_newer}
 use Rattle.bq_simulate.proofs.KindLemmas.{kind-within}
 use Rattle.bq_simulate.proofs.KeptLemmas.{none_stands}
 use Rattle.bq_simulate.proofs.SimulationAgreeLemmas.{admitted_open, draw_opens, install_opens, installed_opens, just_kept, none_kept, opening_opens}
-use Rattle.bq_simulate.proofs.SoundKindLemmas.{sound_tasks}
 use Rattle.bq_simulate.proofs.StandingLemmas.{standing_is_kept}
+use Rattle.bq_simulate.proofs.StreamLemmas.{streams_count}
 use Rattle.bq_simulate.proofs.WellLemmas.{processors_kept}
 use Rattle.bq_simulate.proofs.WholeLemmas.{IsNew, firsts-none}
 
@@ -142,16 +143,11 @@ pub few_before : (w : Workload) (number : ℕ) (kind : TaskKind) (task count : �
     → count < kind.count
     → task < 1024
 few_before w number kind task count sound there is before =
-    omega (arith, is, before, kind-within w.tasks.items number kind there, sound_tasks w sound)
-
--- each task has a stream
-streams_many : (seed first : ℕ) (drawn : List ℕ) → length (streams_after seed first drawn) ≡ length drawn
-streams_many seed first [] = refl
-streams_many seed first (n ∷ ns) = ap suc (streams_many seed (first + 1) ns)
+    omega (arith, is, before, kind-within w.tasks.items number kind there, sound-few w sound)
 
 -- there are as many streams as tasks
 pub streams-there : (w : Workload) (tasks : ℕ) (s : Simulation) → OpensWell w tasks s → length s.streams.items ≡ tasks
-streams-there w tasks s h = ap length h.streams ∙ streams_many s.seed 0 h.drawn ∙ h.standing.streams ∙ h.opening.tasks_there
+streams-there w tasks s h = ap length h.streams ∙ streams_count s.seed 0 h.drawn ∙ h.standing.streams ∙ h.opening.tasks_there
 
 -- once all tasks are there it has opened, and goes well from instant 0
 pub opened-well : (w : Workload) (s : Simulation) → HasAllFirsts w.tasks.items s → OpensWell w (tasks_in w.tasks.items) s → SimulationGoesWell w 0 s

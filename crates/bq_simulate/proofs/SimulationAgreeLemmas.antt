@@ -34,6 +34,7 @@ use Rattle.bq_workload.specs.declared.progress.TaskProgress.{TaskProgress}
 use Rattle.bq_workload.specs.Kinds.{tasks_in}
 use Rattle.bq_workload.specs.Soundness.{IsFirstAllowed}
 use Rattle.bq_workload.specs.TaskProgress.{fresh_task}
+use Rattle.bq_workload.proofs.DueLemmas.{appended, appended_others, at-replicate}
 use Rattle.bq_simulate.specs.declared.driver.Driver.{Driver}
 use Rattle.bq_simulate.specs.Actions.{kind_start}
 use Rattle.bq_simulate.specs.Agreement.{AgreesWith, IsOnTime, ProcessorIsOnTime, RunsOnTime, TaskIsOnTime}
@@ -44,7 +45,7 @@ use Rattle.bq_simulate.specs.GoingWell.{IsOpening}
 use Rattle.bq_simulate.specs.Simulations.{IsSimulation, Proceeds, opening_book, periods_of}
 use Rattle.bq_simulate.specs.Steps.{AreAdmitted, AreAllAdmitted, AreInstalled, AreJustEvents, Opens, MetDue, all_processors, deeds_of}
 use Rattle.bq_simulate.proofs.AccountLemmas.{read}
-use Rattle.bq_simulate.proofs.AdmissionTakenLemmas.{admit_kept, appended, appended_others}
+use Rattle.bq_simulate.proofs.AdmissionTakenLemmas.{admit_kept}
 use Rattle.bq_simulate.proofs.MeetAgreeLemmas.{meetings_agree, step_of, tick_agrees, world_of}
 use Rattle.bq_simulate.proofs.TakenLemmas.{draws_are_taken, install_kept}
 use Rattle.bq_simulate.proofs.TimeKeptLemmas.{carried}
@@ -313,12 +314,6 @@ opening_agrees n balance =
       homes = λ task c at. absurd (none-some c at);
     }
 
--- of equals each is the same
-replicated : {A : Type 0} (n k : ℕ) (x y : A) → slice_get (replicate n x) k ≡ Some y → x ≡ y
-replicated zero k x y at = absurd (none-some y at)
-replicated (suc n) zero x y at = same_Some x y at
-replicated (suc n) (suc k) x y at = replicated n k x y at
-
 -- nothing of the opening is past
 opening_on_time : (n balance : ℕ) → IsOnTime 0 (opening_accounts n balance)
 opening_on_time n balance =
@@ -331,7 +326,7 @@ opening_on_time n balance =
     } in
     record {
       tasks = λ task c at. absurd (none-some c at);
-      processors = λ k l at. subst (λ (y : ProcessorState). ProcessorIsOnTime 0 [] y) (replicated n k x l at) rests;
+      processors = λ k l at. subst (λ (y : ProcessorState). ProcessorIsOnTime 0 [] y) (at-replicate n k x l at).1 rests;
     }
 
 -- of the opening machine nothing was done

@@ -1,5 +1,5 @@
 -- What a workload has that can be followed: the times of its machine, and of each of its kinds.
-use Rattle.std.proofs.Common.{◌≡◌, ℕ, zero, suc, ◌+◌, ◌<◌, ◌≤◌, Bool, true, false, List, [], ◌∷◌, ◌++◌, length, Option, Some, None, refl, sym, subst, ap, arith, get_or}
+use Rattle.std.proofs.Common.{◌≡◌, ℕ, zero, suc, ◌+◌, ◌<◌, ◌≤◌, true, List, [], ◌∷◌, ◌++◌, length, Option, Some, None, refl, sym, subst, ap, arith, get_or}
 use Rattle.std.specs.Prelude.{◌&&◌, nat_le, slice_get}
 use Rattle.std.specs.List.{list_any}
 use Rattle.std.specs.Option.{option_map_or}
@@ -9,25 +9,15 @@ use Rattle.bq_words.specs.Sizes.{processors_in}
 use Rattle.bq_workload.specs.declared.action.Action.{Action}
 use Rattle.bq_workload.specs.declared.action.Action.TheVariants.{Wake}
 use Rattle.bq_workload.specs.declared.setup.Setup.{Setup}
-use Rattle.bq_workload.specs.declared.sound.Unsound.{Unsound}
 use Rattle.bq_workload.specs.declared.sound.Unsound.TheVariants as flaw
 use Rattle.bq_workload.specs.declared.workload.TaskKind.{TaskKind}
 use Rattle.bq_workload.specs.declared.workload.Workload.{Workload}
-use Rattle.bq_workload.specs.Kinds.{kind_count, tasks_in}
+use Rattle.bq_workload.specs.Kinds.{kind_count}
 use Rattle.bq_workload.specs.Lengths.{is_long, longest, takes_time}
 use Rattle.bq_workload.specs.Soundness.{allows_one, first_flaw, flaws_of_actions, flaws_of_count, flaws_of_doing, flaws_of_kind, flaws_of_kinds, flaws_of_machine, has_name, has_numbers, has_times, is_action, unless}
+use Rattle.bq_workload.proofs.SoundLemmas.{holds, parts_sound}
 use Rattle.bq_simulate.proofs.AdmissionTakenLemmas.{numbers_of}
 use Rattle.bq_disc.specs.declared.clock.TheConstants.{LATEST}
-
--- where two parts together have no flaw, neither has one
-parts_sound : (xs ys : List Unsound) → slice_get (xs ++ ys) 0 ≡ None → (slice_get xs 0 ≡ None) × (slice_get ys 0 ≡ None)
-parts_sound [] ys h = (refl, h)
-parts_sound (x ∷ xs) ys h = absurd (none-some x (sym h))
-
--- what has no flaw holds
-holds : (b : Bool) (flaw : Unsound) → slice_get (unless b flaw) 0 ≡ None → b ≡ true
-holds true flaw h = refl
-holds false flaw h = absurd (none-some flaw (sym h))
 
 -- a kind has tasks, and actions, of which one takes time. Each has a length in its range, or wakes one of the kinds
 pub record IsSoundKind (kinds : ℕ) (kind : TaskKind) : Type 0 where
@@ -179,10 +169,3 @@ sound_times w sound =
     let kinds = flaws_of_kinds (processors_in w.machine.size) (length w.tasks.items) 0 w.tasks.items in
     let all = parts_sound (flaws_of_machine w.machine ++ kinds) (flaws_of_count w.tasks.items) sound in
     times_of w.machine (holds (has_times w.machine) flaw.Machine (parts_sound (flaws_of_machine w.machine) kinds all.0).0)
-
--- a workload that can be followed has no more tasks than there may be
-pub sound_tasks : (w : Workload) → first_flaw w ≡ None → tasks_in w.tasks.items ≤ 1024
-sound_tasks w sound =
-    let kinds = flaws_of_kinds (processors_in w.machine.size) (length w.tasks.items) 0 w.tasks.items in
-    let all = parts_sound (flaws_of_machine w.machine ++ kinds) (flaws_of_count w.tasks.items) sound in
-    leb-true (tasks_in w.tasks.items) 1024 (holds (nat_le (tasks_in w.tasks.items) 1024) flaw.Tasks all.1)

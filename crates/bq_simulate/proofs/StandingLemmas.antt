@@ -19,15 +19,15 @@ use Rattle.bq_workload.specs.Accounts.{Accounts, changed_at, accounts_charged, r
 use Rattle.bq_workload.specs.Kinds.{kind_count}
 use Rattle.bq_workload.specs.Soundness.{first_flaw}
 use Rattle.bq_workload.specs.TaskProgress.{fresh_task, moved_to, run_for, progress_woken}
-use Rattle.bq_workload.proofs.AgreeLemmas.{changed_at-here, changed_at-others, some_or_none}
+use Rattle.bq_workload.proofs.AgreeLemmas.{changed_at-here, changed_at-none, changed_at-others, some_or_none}
+use Rattle.bq_workload.proofs.DueLemmas.{appended, appended_others}
 use Rattle.bq_simulate.specs.Actions.{IsTaskOfKind, acted, action_at, action_count, advanced_in, asked_by, next_action, kind_start, woken_one_in}
 use Rattle.bq_simulate.specs.Deeds.{Acts, Beats, Book, Happens, Joins, Looks, Misses, Reaches, Rings, after_act, after_answer, after_beat, after_event, after_look, drawn_with, task_added, length_taken}
 use Rattle.bq_simulate.specs.Drives.{count_entered, runs_now, task_pulled}
 use Rattle.bq_simulate.specs.Kept.{StandAtActions, StandsAtAction}
 use Rattle.bq_simulate.specs.KeptLaws.{StandingIsKept}
 use Rattle.bq_simulate.specs.Simulations.{periods_of}
-use Rattle.bq_simulate.proofs.AccountLemmas.{changed_at-length, unchanged}
-use Rattle.bq_simulate.proofs.AdmissionTakenLemmas.{appended, appended_others}
+use Rattle.bq_simulate.proofs.AccountLemmas.{changed_at-length}
 use Rattle.bq_simulate.proofs.SoundKindLemmas.{sound_count, sound_kind}
 
 -- What a change of the accounts keeps
@@ -158,7 +158,7 @@ stand_changed : (kinds : List TaskKind) (f : TaskProgress → TaskProgress) (cs 
 stand_changed kinds f cs n keeps h task c at = elim (cases_eq task n) [
   | inr other ↦ h task c (sym (changed_at-others f cs n task other) ∙ at)
   | inl here ↦ elim (some_or_none (slice_get cs n)) [
-    | inl none ↦ h task c (sym (ap (λ (ys : List TaskProgress). slice_get ys task) (unchanged f cs n none)) ∙ at)
+    | inl none ↦ h task c (sym (ap (λ (ys : List TaskProgress). slice_get ys task) (changed_at-none f cs n none)) ∙ at)
     | inr (x, is) ↦
         let new : slice_get (changed_at f cs n) task ≡ Some (f x) = ap (slice_get (changed_at f cs n)) here ∙ changed_at-here f cs n x is in
         let same : f x ≡ c = same_Some (f x) c (sym new ∙ at) in

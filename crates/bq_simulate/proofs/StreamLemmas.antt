@@ -22,6 +22,11 @@ no_draws : (g : Lcg) → after_draws zero g ≡ g
 unfolding after_draws
 no_draws g = refl
 
+-- there are as many streams as counts of the lengths that they have given
+pub streams_count : (seed first : ℕ) (drawn : List ℕ) → length (streams_after seed first drawn) ≡ length drawn
+streams_count seed first [] = refl
+streams_count seed first (n ∷ ns) = omega (arith, streams_count seed (first + 1) ns)
+
 -- one stream more
 streams-push : (seed first : ℕ) (drawn : List ℕ)
     → streams_after seed first (drawn ++ 0 ∷ [])

@@ -35,6 +35,7 @@ use Rattle.bq_parts.proofs.OnceLemmas.{each_once_running}
 use Rattle.bq_parts.proofs.PermittedLemmas.{may_pull_names, own_pull_permitted, settled_permitted}
 use Rattle.bq_parts.proofs.TallyLemmas.{tally, tally-charge}
 use Rattle.bq_core.proofs.MoveLemmas.{tally-after_leaving, tally-pulled, tally-without_task}
+use Rattle.bq_core.proofs.EachProcessorLemmas.{at_set_else}
 use Rattle.bq_workload.specs.declared.progress.TaskState.{TaskState}
 use Rattle.bq_workload.specs.declared.processor_state.ProcessorState.{ProcessorState}
 use Rattle.bq_workload.specs.declared.periods.Periods.{Periods}
@@ -44,7 +45,7 @@ use Rattle.bq_simulate.specs.Agreement.{AgreesBut, AgreesWith, HaveProcessors, R
 use Rattle.bq_simulate.specs.AgreementLaws.{BlocksAreTaken, DrawsAreTaken, InstallsAreTaken, PullsAreTaken, TicksAreTaken}
 use Rattle.bq_simulate.specs.Drives.{runs_now, task_pulled}
 use Rattle.bq_simulate.proofs.AccountLemmas.{Reads, reads_grown, reads_join, reads_same, reads_shrunk, reads_switched}
-use Rattle.bq_simulate.proofs.MirrorLemmas.{agree_after, at_set_else, each, homes_switched, runs_written, settled_written, size_decided, size_there, run_there, state_there, tally_length, tasks_kept, there}
+use Rattle.bq_simulate.proofs.MirrorLemmas.{agree_after, each, homes_switched, runs_written, settled_written, size_decided, size_there, run_there, state_there, tally_length, tasks_kept, there}
 
 -- Ticks
 

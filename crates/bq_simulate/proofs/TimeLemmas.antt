@@ -14,6 +14,7 @@ use Rattle.bq_workload.specs.Dues.{phase_end, until}
 use Rattle.bq_workload.specs.Next.{IsNextDue, NothingComes, comes_at, phase_ends_at, rings_at}
 use Rattle.bq_workload.proofs.AgreeLemmas.{some_or_none}
 use Rattle.bq_workload.proofs.AgreedLemmas.{end-of, look-of, look_at, tick-of, tick_at}
+use Rattle.bq_workload.proofs.DueLemmas.{ring-of}
 use Rattle.bq_simulate.specs.Agreement.{IsOnTime, ProcessorIsOnTime, RunsOnTime}
 use Rattle.bq_simulate.specs.AgreementLaws.{NothingIsMissed}
 use Rattle.bq_disc.specs.declared.clock.TheConstants.{LATEST}
@@ -42,11 +43,6 @@ next_first end time x a due other next low early is = elim (cases_lt x time) [
   | inl before ↦ absurd (next.first other x (is ∙ until_some end x (omega arith) (omega arith)) (inl before))
   | inr later ↦ later
 ]
-
--- when a timer rings
-pub ring-of : (end task : ℕ) (a : Accounts) (c : TaskProgress)
-    → slice_get a.by_task task ≡ Some c → comes_at end a (Wake task) ≡ rings_at end c.task_state c.timer
-ring-of end task a c at = ap (λ (o : Option TaskProgress). option_and_then (λ (x : TaskProgress). rings_at end x.task_state x.timer) o) at
 
 -- the timer of a task that is asleep rings at its time, if that is by the end
 ring-asleep : (end timer : ℕ) (s : TaskState) → s ≡ Asleep → rings_at end s timer ≡ until end timer

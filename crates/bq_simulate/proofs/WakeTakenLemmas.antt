@@ -26,7 +26,7 @@ use Rattle.bq_parts.specs.StandsOnce.{IsOrderly}
 use Rattle.bq_parts.specs.Steps.{WorldStep}
 use Rattle.bq_parts.proofs.PermittedLemmas.{may_place_fits, settled_permitted}
 use Rattle.bq_parts.proofs.TallyLemmas.{tally, tally-charge, tally-decided, tally-enter_all}
-use Rattle.bq_core.proofs.EachProcessorLemmas.{at_set}
+use Rattle.bq_core.proofs.EachProcessorLemmas.{at_set, at_set_else}
 use Rattle.bq_core.proofs.OrderLemmas.{step_keeps}
 use Rattle.bq_core.proofs.SizeLemmas.{step_count}
 use Rattle.bq_workload.specs.declared.progress.TaskProgress.{TaskProgress}
@@ -39,7 +39,7 @@ use Rattle.bq_simulate.specs.Agreement.{AgreesWith, HaveProcessors, Mirrors, Sta
 use Rattle.bq_simulate.specs.AgreementLaws.{IsTaken, IsTakenIn, WakesAreTaken}
 use Rattle.bq_simulate.specs.Drives.{count_entered, placed_at, runs_now}
 use Rattle.bq_simulate.proofs.AccountLemmas.{Reads, reads_grown, reads_join, reads_same, reads_switched, state_others, state_woken}
-use Rattle.bq_simulate.proofs.MirrorLemmas.{agree_after, at_set_else, each, homes_switched, homes_task, runs_written, run_there, size_there, state_there, tally_length, tasks_kept, there}
+use Rattle.bq_simulate.proofs.MirrorLemmas.{agree_after, each, homes_switched, homes_task, runs_written, run_there, size_there, state_there, tally_length, tasks_kept, there}
 use Rattle.bq_simulate.proofs.TakenLemmas.{current_id}
 
 -- a wake has begun: one hand holds a task, and else none is on its way

@@ -42,7 +42,7 @@ changed_at-here {A} f xs n x h =
     ∙ slice_get-set_here xs n (f x) x h
 
 -- where nothing stands at a place nothing is changed
-changed_at-none : {A : Type 0} (f : A → A) (xs : List A) (n : ℕ) → slice_get xs n ≡ None → changed_at f xs n ≡ xs
+pub changed_at-none : {A : Type 0} (f : A → A) (xs : List A) (n : ℕ) → slice_get xs n ≡ None → changed_at f xs n ≡ xs
 changed_at-none {A} f xs n h = ap (λ (o : Option A). option_map_or (λ (y : A). slice_set xs n (f y)) o xs) h
 
 -- there is something or nothing

@@ -121,8 +121,8 @@ looked-agrees end p now between a b x y processor_state at is plan h =
     }) in
     subst (λ (z : Accounts). QueueAgrees end z y) (sym is) whole
 
--- a task's progress in a list
-ring-of : (end task : ℕ) (a : Accounts) (c : TaskProgress) → slice_get a.by_task task ≡ Some c
+-- a task's timer rings when its progress says
+pub ring-of : (end task : ℕ) (a : Accounts) (c : TaskProgress) → slice_get a.by_task task ≡ Some c
     → comes_at end a (Wake task) ≡ rings_at end c.task_state c.timer
 ring-of end task a c there = ap (λ (o : Option TaskProgress). option_and_then (λ d. rings_at end d.task_state d.timer) o) there
 
@@ -248,18 +248,17 @@ in-longer [] ys k x h = absurd (none-some x h)
 in-longer (z ∷ zs) ys zero x h = h
 in-longer (z ∷ zs) ys (suc k) x h = in-longer zs ys k x h
 
--- the last item of a list that is longer by one is the new one
-last-of : {A : Type 0} (xs : List A) (x : A) (k : ℕ) → k ≡ length xs → slice_get (xs ++ x ∷ []) k ≡ Some x
-last-of [] x k h = ap (slice_get (x ∷ [])) (let e : k ≡ zero = omega (arith, h) in e)
-last-of (z ∷ zs) x zero h = absurd (omega (arith, h))
-last-of (z ∷ zs) x (suc k) h = last-of zs x k (omega (arith, h))
+-- one more stands at the end of a list
+pub appended : {A : Type 0} (xs : List A) (x : A) → slice_get (xs ++ x ∷ []) (length xs) ≡ Some x
+appended [] x = refl
+appended (y ∷ ys) x = appended ys x
 
--- other places of a list that is longer by one have what they had
-others-of : {A : Type 0} (xs : List A) (x : A) (k : ℕ) → k ≢ length xs → slice_get (xs ++ x ∷ []) k ≡ slice_get xs k
-others-of [] x zero h = absurd (h refl)
-others-of [] x (suc k) h = refl
-others-of (z ∷ zs) x zero h = refl
-others-of (z ∷ zs) x (suc k) h = others-of zs x k (λ e. h (omega (arith, e)))
+-- what stands before one more at the end of a list stays
+pub appended_others : {A : Type 0} (xs : List A) (x : A) (k : ℕ) → k ≢ length xs → slice_get (xs ++ x ∷ []) k ≡ slice_get xs k
+appended_others [] x zero h = absurd (h refl)
+appended_others [] x (suc k) h = refl
+appended_others (y ∷ ys) x zero h = refl
+appended_others (y ∷ ys) x (suc k) h = appended_others ys x k (λ e. h (ap suc e))
 
 -- one task more, which sleeps until its timer rings
 pub added-agrees : (end task : ℕ) (c : TaskProgress) (a b : Accounts) (x y : List ℕ)
@@ -272,9 +271,9 @@ added-agrees end task c a b x y number asleep by_task by_processor plan h =
     ap (λ (l : List TaskProgress). both l b.by_processor) by_task
     ∙ ap (λ (l : List ProcessorState). both (a.by_task ++ c ∷ []) l) by_processor in
     let few : task < TASKS = plan.there in
-    let there : slice_get d.by_task task ≡ Some c = last-of a.by_task c task number in
+    let there : slice_get d.by_task task ≡ Some c = ap (slice_get d.by_task) number ∙ appended a.by_task c in
     let others : (k : ℕ) → k ≢ task → slice_get d.by_task k ≡ slice_get a.by_task k =
-    λ k other. others-of a.by_task c k (λ e. other (e ∙ sym number)) in
+    λ k other. appended_others a.by_task c k (λ e. other (e ∙ sym number)) in
     let stays : (q k : ℕ) (l : ProcessorState) → slice_get a.by_processor q ≡ Some l → l.run ≡ Some k
     → slice_get d.by_task k ≡ slice_get a.by_task k =
     λ q k l here runs.
@@ -432,8 +431,8 @@ none-next end a x none h due = elim (some_or_none (comes_at end a due)) [
       absurd (omega (arith, few, stood, at))
 ]
 
--- a processor of this many stands in their list
-at-replicate : {A : Type 0} (count k : ℕ) (x y : A) → slice_get (replicate count x) k ≡ Some y → (k < count) × (x ≡ y)
+-- what stands in a list of equals stands at one of its places, and is one of them
+pub at-replicate : {A : Type 0} (count k : ℕ) (x y : A) → slice_get (replicate count x) k ≡ Some y → (k < count) × (x ≡ y)
 at-replicate zero k x y h = absurd (none-some y h)
 at-replicate (suc n) zero x y h = (omega arith, same_Some x y h)
 at-replicate (suc n) (suc k) x y h = let r = at-replicate n k x y h in (omega (arith, r.0), r.1)

@@ -4,6 +4,7 @@ use Rattle.std.specs.Prelude.{nat_le}
 use Rattle.std.specs.List.{AllByRecursion}
 use Rattle.std.proofs.lemmas.Bool.{false≢true}
 use Rattle.std.proofs.lemmas.Bool.Decides.{nat_tests}
+use Rattle.std.proofs.lemmas.Option.{none-some}
 use Rattle.bq_words.specs.Sizes.{processors_in}
 use Rattle.bq_workload.specs.declared.sound.Unsound.{Unsound}
 use Rattle.bq_workload.specs.declared.sound.Unsound.TheVariants as flaw
@@ -22,48 +23,43 @@ pub first-later : (xs ys zs : List Unsound) → None ≡ slice_get xs 0 → slic
 first-later [] ys zs h = refl
 first-later (x ∷ xs) ys zs h = absurd (false≢true (ap (λ (o : Option Unsound). is_some o) h))
 
--- where there is no first flaw there is no flaw
-no_flaws : (flaws : List Unsound) → slice_get flaws 0 ≡ None → flaws ≡ []
-no_flaws [] h = refl
-no_flaws (x ∷ xs) h = absurd (false≢true (sym (ap (λ (o : Option Unsound). is_some o) h)))
+-- where two parts together have no flaw, neither has one
+pub parts_sound : (xs ys : List Unsound) → slice_get (xs ++ ys) 0 ≡ None → (slice_get xs 0 ≡ None) × (slice_get ys 0 ≡ None)
+parts_sound [] ys h = (refl, h)
+parts_sound (x ∷ xs) ys h = absurd (none-some x (sym h))
 
--- where two lists together are empty, each is empty
-no_parts : (xs ys : List Unsound) → xs ++ ys ≡ [] → (xs ≡ []) × (ys ≡ [])
-no_parts [] ys h = (refl, h)
-no_parts (x ∷ xs) ys h = cc
-
--- what holds, where its flaw is not found
-holds_unless : (b : Bool) (flaw : Unsound) → unless b flaw ≡ [] → b ≡ true
-holds_unless true flaw h = refl
-holds_unless false flaw h = cc
+-- what has no flaw holds
+pub holds : (b : Bool) (flaw : Unsound) → slice_get (unless b flaw) 0 ≡ None → b ≡ true
+holds true flaw h = refl
+holds false flaw h = absurd (none-some flaw (sym h))
 
 -- a name that is allowed has at most 1024 bytes
 short_name : (kind : TaskKind) → has_name kind ≡ true → length (string_bytes kind.name) ≤ 1024
 short_name kind h = grind (arith, nat_tests)
 
 -- where kinds have no flaw, each has a name of at most 1024 bytes
-kinds_named : (processors kinds number : ℕ) (ks : List TaskKind) → flaws_of_kinds processors kinds number ks ≡ []
+kinds_named : (processors kinds number : ℕ) (ks : List TaskKind) → slice_get (flaws_of_kinds processors kinds number ks) 0 ≡ None
     → AllByRecursion (λ (kind : TaskKind). length (string_bytes kind.name) ≤ 1024) ks
 kinds_named processors kinds number [] h = tt
 kinds_named processors kinds number (kind ∷ ks) h =
-    let both = no_parts (flaws_of_kind processors kinds number kind) (flaws_of_kinds processors kinds (number + 1) ks) h in
-    let doing = no_parts _ (flaws_of_doing kinds number kind.actions.items) both.0 in
-    let mask = no_parts _ (unless (allows_one processors kind.mask) (flaw.Mask number)) doing.0 in
-    let numbers = no_parts _ (unless (has_numbers kind) (flaw.Kind number)) mask.0 in
-    (short_name kind (holds_unless (has_name kind) (flaw.Name number) numbers.0), kinds_named processors kinds (number + 1) ks both.1)
+    let both = parts_sound (flaws_of_kind processors kinds number kind) (flaws_of_kinds processors kinds (number + 1) ks) h in
+    let doing = parts_sound _ (flaws_of_doing kinds number kind.actions.items) both.0 in
+    let mask = parts_sound _ (unless (allows_one processors kind.mask) (flaw.Mask number)) doing.0 in
+    let numbers = parts_sound _ (unless (has_numbers kind) (flaw.Kind number)) mask.0 in
+    (short_name kind (holds (has_name kind) (flaw.Name number) numbers.0), kinds_named processors kinds (number + 1) ks both.1)
 
 -- in a workload without a flaw no name is too long
 pub sound-named : (w : Workload) → first_flaw w ≡ None
     → AllByRecursion (λ (kind : TaskKind). length (string_bytes kind.name) ≤ 1024) w.tasks.items
 sound-named w h =
     let kinds = flaws_of_kinds (processors_in w.machine.size) (length w.tasks.items) 0 w.tasks.items in
-    let all = no_parts (flaws_of_machine w.machine ++ kinds) (flaws_of_count w.tasks.items) (no_flaws _ h) in
-    kinds_named _ _ 0 w.tasks.items (no_parts (flaws_of_machine w.machine) kinds all.0).1
+    let all = parts_sound (flaws_of_machine w.machine ++ kinds) (flaws_of_count w.tasks.items) h in
+    kinds_named _ _ 0 w.tasks.items (parts_sound (flaws_of_machine w.machine) kinds all.0).1
 
 -- in a workload without a flaw there are not too many tasks
 pub sound-few : (w : Workload) → first_flaw w ≡ None → tasks_in w.tasks.items ≤ 1024
 sound-few w h =
     let kinds = flaws_of_kinds (processors_in w.machine.size) (length w.tasks.items) 0 w.tasks.items in
-    let all = no_parts (flaws_of_machine w.machine ++ kinds) (flaws_of_count w.tasks.items) (no_flaws _ h) in
-    let few = holds_unless (nat_le (tasks_in w.tasks.items) 1024) flaw.Tasks all.1 in
+    let all = parts_sound (flaws_of_machine w.machine ++ kinds) (flaws_of_count w.tasks.items) h in
+    let few = holds (nat_le (tasks_in w.tasks.items) 1024) flaw.Tasks all.1 in
     grind (arith, nat_tests)
