@@ -6,7 +6,7 @@ use Rattle.std.specs.List.{filter_map, list_all}
 use Rattle.std.proofs.lemmas.Int.{ints}
 use Rattle.std.proofs.lemmas.List.{length-replicate, get_or_append_left, append_assoc, reverse-append, get_or-append-add, get_or-replicate}
 use Rattle.std.proofs.lemmas.Option.{none-some}
-use Rattle.std.proofs.lemmas.Bool.{and_from}
+use Rattle.std.proofs.lemmas.Bool.{and_from, cases_lt, cases_order}
 use Rattle.bq_insn.specs.declared.Insn.{Insn}
 use Rattle.bq_insn.specs.declared.Insn.TheVariants.{Alu, MovSx, Neg, End, Load, StoreImm, StoreReg, Imm64, MapRef, Goto, Goto32, Branch, Call, Exit}
 use Rattle.bq_insn.specs.Slots.{slots_of, spread}
@@ -220,31 +220,19 @@ module _ (maps : ℕ) (old back : List (Option Insn)) (origins : List ℕ) (from
         };
   }
 
-  -- one number is below another, or equals it, or is above it
-  compare : (a b : ℕ) → (a < b) ⊎ ((a ≡ b) ⊎ (b < a))
-  compare zero zero = inr (inl refl)
-  compare zero (suc b) = inl (omega arith)
-  compare (suc a) zero = inr (inr (omega arith))
-  compare (suc a) (suc b) = elim (compare a b) [
-    | inl lt ↦ inl (omega (arith, lt))
-    | inr (inl e) ↦ inr (inl (ap suc e))
-    | inr (inr gt) ↦ inr (inr (omega (arith, gt)))
-  ]
-
   -- each instruction of the longer list goes on to copies of where its original goes on
   all_placed : MayBePut old back origins from insn distance
       → (place f : ℕ) → IsCopyOfSlot (back ++ tail) (origins ++ tail_from) place f
       → IsPlacedCopy maps old (back ++ tail) (origins ++ tail_from) place f
   unfolding place_of
-  all_placed may place f p = elim (compare place (length back)) [
+  all_placed may place f p = elim (cases_lt place (length back)) [
     | inl lt ↦ old_placed place f (built.placed place f (stands_was back tail origins tail_from place f built.as_long lt p))
     | inr low ↦
-        let low' : length back ≤ place = elim low [ inl e ↦ omega (arith, e) | inr gt ↦ omega (arith, gt) ] in
-        elim (compare place place_of) [
-          | inl lt ↦ absurd (some_none _ p.start.insn p.start.here (none_between place low' lt))
-          | inr (inl e) ↦
+        elim (cases_order place place_of) [
+          | inl e ↦
               let same : from ≡ f = sym origin_here ∙ (ap (λ (k : ℕ). slice_index (origins ++ tail_from) k) (sym e) ∙ p.origin_is) in
               subst (λ (k : ℕ). IsPlacedCopy maps old (back ++ tail) (origins ++ tail_from) k f) (sym e) (new_placed may f same)
+          | inr (inl lt) ↦ absurd (some_none _ p.start.insn p.start.here (none_between place low lt))
           | inr (inr gt) ↦
               let inside = start_inside (back ++ tail) place p.start in
               let long = length-append back tail in
@@ -258,18 +246,17 @@ module _ (maps : ℕ) (old back : List (Option Insn)) (origins : List ℕ) (from
   only_one : (place f : ℕ) → IsCopyOfSlot (back ++ tail) (origins ++ tail_from) place f
       → IsCopyOfSlot back origins place f ⊎ ((length (back ++ tail) ≡ place + 1) × (f ≡ from))
   unfolding place_of
-  only_one place f p = elim (compare place (length back)) [
+  only_one place f p = elim (cases_lt place (length back)) [
     | inl lt ↦ inl (stands_was back tail origins tail_from place f built.as_long lt p)
     | inr low ↦
-        let low' : length back ≤ place = elim low [ inl e ↦ omega (arith, e) | inr gt ↦ omega (arith, gt) ] in
         let long = length-append back tail in
         let more = long_tail in
         let positive = slots_positive insn in
-        elim (compare place place_of) [
-          | inl lt ↦ absurd (some_none _ p.start.insn p.start.here (none_between place low' lt))
-          | inr (inl e) ↦
+        elim (cases_order place place_of) [
+          | inl e ↦
               let same : from ≡ f = sym origin_here ∙ (ap (λ (k : ℕ). slice_index (origins ++ tail_from) k) (sym e) ∙ p.origin_is) in
               inr (omega (arith, long, more, positive, e), sym same)
+          | inr (inl lt) ↦ absurd (some_none _ p.start.insn p.start.here (none_between place low lt))
           | inr (inr gt) ↦
               let inside = start_inside (back ++ tail) place p.start in
               absurd (let no : ⊥ = omega (arith, inside, long, more, gt, positive) in no)

@@ -1,6 +1,7 @@
 -- What is kept for the slots that were begun, and what the copy may have in all.
 use Rattle.std.proofs.Common.{◌≡◌, ℕ, ◌+◌, ◌-◌, ◌<◌, ◌≤◌, ◌⊎◌, inl, inr, Bool, true, false, List, [], ◌∷◌, ◌++◌, reverse, length, take, get_or, Option, Some, None, refl, arith, sym, ap, ◌∙◌, subst}
 use Rattle.std.specs.Prelude.{if◌then◌else◌, slice_index, slice_set, sum_by}
+use Rattle.std.proofs.lemmas.Bool.{cases_eq}
 use Rattle.std.proofs.lemmas.List.{get_or-append-add, get_or-set_other, get_or-set_same, length-append, reverse-append, reverse-reverse, take_all, take_more}
 use Rattle.std.proofs.lemmas.List.Sums.{sum_by-cons, sum_by-le-sum_by}
 use Rattle.bq_insn.specs.declared.Insn.{Insn}
@@ -19,7 +20,6 @@ use Rattle.bq_import.specs.Orders.{HasLongOrder}
 use Rattle.bq_import.specs.Search.{AreTargets, HasCopy, IsLastOf, IsMissing, IsTop, Suffices, is_open, copy_place}
 use Rattle.bq_import.proofs.LengthLemmas.{run_next}
 use Rattle.bq_import.proofs.RunningLemmas.{next_of}
-use Rattle.bq_import.proofs.StackLemmas.{equal_or_not}
 
 -- a slot that was pushed comes first in the reversed stack
 reverse_push : (stack : List ℕ) (slot : ℕ) → reverse (stack ++ slot ∷ []) ≡ slot ∷ reverse stack
@@ -69,7 +69,7 @@ module _ (old : List (Option Insn)) (opens : List Bool) where
   module _ (slot : ℕ) (inside : slot < length opens) where
     -- no run has more waiting slots than before
     waits_less : (k : ℕ) → waiting old (slice_set opens slot true) k ≤ waiting old opens k
-    waits_less k = elim (equal_or_not k slot) [
+    waits_less k = elim (cases_eq k slot) [
       | inl e ↦
           let now : waiting old (slice_set opens slot true) k ≡ 0 =
           ap (λ (b : Bool). if b then 0 else run_slots old k)

@@ -1,7 +1,7 @@
 -- The forward order that the search finds, and how long its copy is.
 use Rattle.std.proofs.Common.{◌≡◌, ℕ, ◌+◌, ◌<◌, ◌≤◌, inl, inr, Bool, true, false, List, [], ◌∷◌, length, Option, Some, None, refl, arith, sym, ap, ◌∙◌, subst}
 use Rattle.std.specs.Prelude.{if◌then◌else◌, slice_set}
-use Rattle.std.proofs.lemmas.Bool.{eqb-true}
+use Rattle.std.proofs.lemmas.Bool.{eqb-true, cases_eq}
 use Rattle.std.proofs.lemmas.List.{get_or-set_other}
 use Rattle.bq_insn.specs.declared.Insn.{Insn}
 use Rattle.bq_insn.specs.Slots.{slots_of}
@@ -15,7 +15,7 @@ use Rattle.bq_import.specs.Orders.{HasLongOrder, IsForwardOrder, begins_with, sl
 use Rattle.bq_import.specs.Search.{IsCounted, HasCopy, IsSlotReady, Suffices, copy_place}
 use Rattle.bq_import.proofs.LengthLemmas.{run_alone}
 use Rattle.bq_import.proofs.RoomLemmas.{one_slot}
-use Rattle.bq_import.proofs.StackLemmas.{equal_or_not, now_set, still_set}
+use Rattle.bq_import.proofs.StackLemmas.{now_set, still_set}
 
 -- from the instructions of a forward order control stays in it
 goes_in : (slots : List (Option Insn)) (order : List ℕ) → IsForwardOrder slots order → (from next : ℕ) → IsSlotIn order from
@@ -116,7 +116,7 @@ module _ (old back : List (Option Insn)) (origins : List ℕ) (places : List (Op
       counted_more place inside back' origins' front grown = record {
         order = slot ∷ counted.order;
         forward = one_more;
-        has = λ s done. elim (equal_or_not s slot) [
+        has = λ s done. elim (cases_eq s slot) [
           | inl e ↦ inl e
           | inr apart ↦ inr (counted.has s (done.0, sym (get_or-set_other places slot s (Some place) None apart) ∙ done.1))
         ];

@@ -1,6 +1,7 @@
 -- The copy of what control comes to in a program whose jumps go forward, with each instruction once.
 use Rattle.std.proofs.Common.{◌≡◌, ℕ, zero, suc, ◌+◌, ◌-◌, ◌<◌, ◌≤◌, ◌≢◌, Bool, true, false, List, [], ◌∷◌, ◌++◌, length, replicate, Option, Some, None, refl, arith, sym, ap, ◌∙◌, subst, ◌⊎◌, inl, inr}
 use Rattle.std.specs.Prelude.{slice_set}
+use Rattle.std.proofs.lemmas.Bool.{cases_eq}
 use Rattle.std.proofs.lemmas.List.{get_or-set_same, get_or-set_other, length-set}
 use Rattle.bq_insn.specs.declared.Insn.{Insn}
 use Rattle.bq_insn.specs.Slots.{slots_of, spread}
@@ -10,7 +11,7 @@ use Rattle.bq_verify.specs.Paths.{Path}
 use Rattle.bq_verify.specs.Passes.{IsAmongTargets}
 use Rattle.bq_verify.specs.declared.targets.Targets.{Targets}
 use Rattle.bq_insn.proofs.OptionLemmas.{some_same, some_none}
-use Rattle.bq_verify.proofs.EdgeLemmas.{start_inside, IsPath-push, end_of-push}
+use Rattle.bq_verify.proofs.EdgeLemmas.{start_inside}
 use Rattle.bq_import.specs.Copies.{IsCopyOfSlot}
 use Rattle.bq_import.specs.Backward.{IsBuilt, IsFront, IsLengthened, IsOneMore}
 use Rattle.bq_import.specs.Faults.{AllForward, HasGaps, IsFull, IsLinked}
@@ -19,25 +20,11 @@ use Rattle.bq_import.specs.declared.fault.Disorder.TheVariants.{Outside, Ends, L
 use Rattle.bq_import.specs.Search.{AreCopyPlaces, AreTargets, HasCopy, IsSlotReady, is_open, copy_place}
 use Rattle.bq_import.specs.Keeping.{AreFollowed, AreReached, IsKeeping, IsMarked}
 use Rattle.bq_import.proofs.RoomLemmas.{lies_within}
-
--- two numbers are equal or not
-same_or_not : (a b : ℕ) → (a ≡ b) ⊎ (a ≢ b)
-same_or_not zero zero = inl refl
-same_or_not zero (suc b) = inr (λ e. cc)
-same_or_not (suc a) zero = inr (λ e. cc)
-same_or_not (suc a) (suc b) = elim (same_or_not a b) [ inl e ↦ inl (ap suc e) | inr apart ↦ inr (λ e. apart (omega (arith, e))) ]
+use Rattle.bq_import.proofs.StackLemmas.{path_on}
 
 -- a number from the bound on is the bound, or is above it
 at_or_above : (bound k : ℕ) → bound ≤ k → (k ≡ bound) ⊎ (bound + 1 ≤ k)
-at_or_above bound k le = elim (same_or_not k bound) [ inl e ↦ inl e | inr apart ↦ inr (omega (arith, le, apart)) ]
-
--- a path and one edge more are a path
-path_further : (slots : List (Option Insn)) (a b c : ℕ) → Path slots a b → IsEdge slots b c → Path slots a c
-path_further slots a b c p edge = record {
-  rest = p.rest ++ c ∷ [];
-  is_path = IsPath-push slots a p.rest c p.is_path (subst (λ (n : ℕ). IsEdge slots n c) (sym p.ends) edge);
-  ends = end_of-push a p.rest c;
-}
+at_or_above bound k le = elim (cases_eq k bound) [ inl e ↦ inl e | inr apart ↦ inr (omega (arith, le, apart)) ]
 
 -- with only slot 0 marked, slot 0 is found, and no slot is followed yet
 pub first_found : (slots : List (Option Insn)) (blank found : List Bool)
@@ -65,7 +52,7 @@ not_followed slots slot found shut p = record {
   begins = p.begins;
   starts = p.starts;
   ways = p.ways;
-  closed = λ k to lt e edge. elim (same_or_not k slot) [
+  closed = λ k to lt e edge. elim (cases_eq k slot) [
     | inl same ↦ absurd (let no : true ≡ false = sym e ∙ (ap (λ (n : ℕ). is_open found n) same ∙ shut) in let never : ⊥ = cc in never)
     | inr apart ↦ p.closed k to (omega (arith, lt, apart)) e edge
   ];
@@ -100,8 +87,8 @@ module _ (slots : List (Option Insn)) (slot : ℕ) (insn : Insn) (targets : Targ
     begins = b.kept 0 (a.kept 0 p.begins);
     starts = λ k e. elim (found_by k e) [ inl was ↦ p.starts k was | inr of ↦ are.starts k of ];
     ways = λ k e. elim (found_by k e)
-        [ inl was ↦ p.ways k was | inr of ↦ path_further slots 0 slot k (p.ways slot here) (are.out.only k of) ];
-    closed = λ k to lt e edge. elim (same_or_not k slot) [
+        [ inl was ↦ p.ways k was | inr of ↦ path_on slots 0 slot k (p.ways slot here) (are.out.only k of) ];
+    closed = λ k to lt e edge. elim (cases_eq k slot) [
       | inl same ↦ target_found to (are.out.each to (subst (λ (n : ℕ). IsEdge slots n to) same edge))
       | inr apart ↦ elim (found_by k e) [
         | inl was ↦ b.kept to (a.kept to (p.closed k to (omega (arith, lt, apart)) was edge))
@@ -240,7 +227,7 @@ module _ (maps : ℕ) (old : List (Option Insn)) (found : List Bool) (slot : ℕ
 
       -- each place in the list is that of a copy
       known_now : AreCopyPlaces back' origins' (slice_set places slot (Some place))
-      known_now k p e = elim (same_or_not k slot) [
+      known_now k p e = elim (cases_eq k slot) [
         | inl same ↦
             let is : place ≡ p =
             some_same _ place p set_here (ap (λ (n : ℕ). copy_place (slice_set places slot (Some place)) n) (sym same) ∙ e) in
@@ -251,7 +238,7 @@ module _ (maps : ℕ) (old : List (Option Insn)) (found : List Bool) (slot : ℕ
 
       -- each slot from this one on to which control comes has a copy
       done_now : (k : ℕ) → slot ≤ k → is_open found k ≡ true → HasCopy (slice_set places slot (Some place)) k
-      done_now k le e = elim (same_or_not k slot) [
+      done_now k le e = elim (cases_eq k slot) [
         | inl same ↦ (place, ap (λ (n : ℕ). copy_place (slice_set places slot (Some place)) n) same ∙ set_here)
         | inr apart ↦ let done = at.done k (omega (arith, le, apart)) e in (done.0, set_other k apart ∙ done.1)
       ]
@@ -283,7 +270,7 @@ module _ (maps : ℕ) (old : List (Option Insn)) (found : List Bool) (slot : ℕ
             comes = λ p from s. elim (was.only p from s)
                 [ inl old_one ↦ at.comes p from old_one | inr (last, is) ↦ subst (λ (n : ℕ). is_open found n ≡ true) (sym is) here ];
             once = once_now;
-            front = λ k le e least. elim (same_or_not k slot) [
+            front = λ k le e least. elim (cases_eq k slot) [
               | inl same ↦ subst (λ (n : ℕ). IsFront back' origins' n) (sym same) more.front
               | inr apart ↦ absurd (least slot (omega arith) (omega (arith, le, apart)) here)
             ];

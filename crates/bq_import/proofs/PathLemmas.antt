@@ -17,6 +17,11 @@ use Rattle.bq_import.specs.Copies.{is_reference, wide_copy, copied, IsCopyOfSlot
 use Rattle.bq_import.specs.Laws.{GoesForward, SameBudget}
 use Rattle.bq_import.proofs.CopyLemmas.{copied_exit}
 
+-- an instruction has no distance, or it has some distance
+pub distance_cases : (v : Option ℤ) → (v ≡ None) ⊎ ((far : ℤ) × (v ≡ Some far))
+distance_cases None = inl refl
+distance_cases (Some far) = inr (far, refl)
+
 -- the copy goes on exactly if the instruction does, is as long, and jumps exactly if the instruction does
 pub record HasShape (insn copy : Insn) (distance : ℤ) : Type 0 where
   pub on : goes_on copy ≡ goes_on insn
@@ -108,11 +113,6 @@ module _ (maps : ℕ) (old new : List (Option Insn)) (origin : List ℕ) (copy :
             }
       ]
 
-  -- a distance is given or not
-  far_of : (v : Option ℤ) → (v ≡ None) ⊎ ((far : ℤ) × (v ≡ Some far))
-  far_of None = inl refl
-  far_of (Some far) = inr (far, refl)
-
   -- each edge of the copy has an original
   edge_behind : (slot from landing : ℕ) → IsCopyOfSlot new origin slot from → IsEdge new slot landing → EdgeBehind from landing
   edge_behind slot from landing stands edge =
@@ -131,7 +131,7 @@ module _ (maps : ℕ) (old new : List (Option Insn)) (origin : List ℕ) (copy :
             }
         | inr (near, is, leads) ↦
             let is' : distance_of (copied maps at.original at.distance) ≡ Some near = ap distance_of (sym same) ∙ is in
-            elim (far_of (distance_of at.original)) [
+            elim (distance_cases (distance_of at.original)) [
               | inl none ↦ absurd (none-some near (sym (shape.stays none) ∙ is'))
               | inr (far, jumps) ↦
                   let alike = at.jumps far jumps in
@@ -247,7 +247,7 @@ module _ (maps : ℕ) (old new : List (Option Insn)) (origin : List ℕ) (copy :
             (omega (arith, is', positive), subst (λ (n : ℕ). IsStart new n) (sym is') (at.on on').start)
         | inr (near, is, leads) ↦
             let is' : distance_of (copied maps at.original at.distance) ≡ Some near = ap distance_of (sym same) ∙ is in
-            elim (far_of maps old new origin copy (distance_of at.original)) [
+            elim (distance_cases (distance_of at.original)) [
               | inl none ↦ absurd (none-some near (sym (shape.stays none) ∙ is'))
               | inr (far, jumps) ↦
                   let alike = at.jumps far jumps in
@@ -266,7 +266,7 @@ module _ (maps : ℕ) (old new : List (Option Insn)) (origin : List ℕ) (copy :
       let shape = copy_has_shape maps at.original at.distance in
       let same = some_same _ bad.insn (copied maps at.original at.distance) bad.here at.copy in
       let is' : distance_of (copied maps at.original at.distance) ≡ Some bad.distance = ap distance_of (sym same) ∙ bad.jumps in
-      elim (far_of maps old new origin copy (distance_of at.original)) [
+      elim (distance_cases (distance_of at.original)) [
         | inl none ↦ absurd (none-some bad.distance (sym (shape.stays none) ∙ is'))
         | inr (far, jumps) ↦
             let alike = at.jumps far jumps in

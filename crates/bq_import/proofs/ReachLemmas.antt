@@ -1,5 +1,5 @@
 -- Where control goes, and that a copy of what control comes to has nothing else.
-use Rattle.std.proofs.Common.{◌≡◌, ℕ, ◌+◌, ◌-◌, ◌<◌, ◌≤◌, Bool, true, List, Option, Some, None, length, reverse, refl, arith, sym, ap, ◌∙◌, subst, ◌⊎◌, inl, inr, ℤ}
+use Rattle.std.proofs.Common.{◌≡◌, ℕ, ◌+◌, ◌-◌, ◌<◌, ◌≤◌, Bool, true, List, Option, Some, None, length, reverse, refl, arith, sym, ap, ◌∙◌, subst, inl, inr, ℤ}
 use Rattle.std.specs.Prelude.{slice_index}
 use Rattle.std.proofs.lemmas.List.{length-reverse}
 use Rattle.bq_insn.specs.declared.Insn.{Insn}
@@ -21,7 +21,7 @@ use Rattle.bq_import.specs.Keeping.{AllReached, AreReached, IsKeeping, LeadsForw
 use Rattle.bq_import.specs.declared.fault.Disorder.{Disorder}
 use Rattle.bq_import.specs.declared.fault.Disorder.TheVariants.{Outside, Ends, Loop, Long, OutOfMemory}
 use Rattle.bq_import.proofs.OrderLemmas.{is_copy, stands_here}
-use Rattle.bq_import.proofs.PathLemmas.{copy_has_shape, goes_forward, path_ahead}
+use Rattle.bq_import.proofs.PathLemmas.{copy_has_shape, distance_cases, goes_forward, path_ahead}
 use Rattle.bq_import.proofs.KeepLemmas.{spread_has_gaps}
 use Rattle.bq_import.proofs.LengthLemmas.{long_enough}
 use Rattle.bq_import.proofs.ProgramLemmas.{are_good}
@@ -100,11 +100,6 @@ all_reached maps old found back origins places reached at slot start =
     let same : length back - 1 - path_end 0 ahead.way ≡ length back - 1 - slot =
     some_same _ (length back - 1 - path_end 0 ahead.way) (length back - 1 - slot) (at.once _ _ there) (at.once _ _ here) in
     record { rest = ahead.way; is_path = ahead.is_path; ends = omega (arith, same, inside, inside', long) }
-
--- an instruction has no distance, or it has some distance
-distance_cases : (v : Option ℤ) → (v ≡ None) ⊎ ((far : ℤ) × (v ≡ Some far))
-distance_cases None = inl refl
-distance_cases (Some far) = inr (far, refl)
 
 -- in a copy control goes to instructions only, and only to later ones
 module _ (maps : ℕ) (old : List (Option Insn)) (insns : List Insn) (origins : List ℕ)

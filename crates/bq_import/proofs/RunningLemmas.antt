@@ -1,5 +1,6 @@
 -- A run of instructions that is put in front from its end.
-use Rattle.std.proofs.Common.{◌≡◌, ℕ, zero, suc, ◌+◌, ◌<◌, ◌≤◌, List, length, Option, Some, None, refl, arith, sym, ap, ◌∙◌, subst, ◌⊎◌, inl, inr}
+use Rattle.std.proofs.Common.{◌≡◌, ℕ, ◌+◌, ◌<◌, ◌≤◌, List, length, Option, Some, None, refl, arith, sym, ap, ◌∙◌, subst, inl, inr}
+use Rattle.std.proofs.lemmas.Bool.{cases_lt, cases_order}
 use Rattle.bq_insn.specs.declared.Insn.{Insn}
 use Rattle.bq_insn.specs.Slots.{slots_of}
 use Rattle.bq_bpf.specs.Steps.{instruction_at}
@@ -16,14 +17,6 @@ use Rattle.bq_import.specs.Search.{AreClosed, AreTargets, IsNextSlot, IsSlotRead
 use Rattle.bq_import.specs.Running.{HasPlaceBefore, IsPutInFront, IsPutting, IsRunOfSlots}
 use Rattle.bq_import.proofs.LengthLemmas.{run_has, run_next}
 use Rattle.bq_import.proofs.RoomLemmas.{full_more}
-
--- one number is below another, or equals it, or is above it
-pub order_of : (a b : ℕ) → (a < b) ⊎ ((a ≡ b) ⊎ (b < a))
-order_of zero zero = inr (inl refl)
-order_of zero (suc b) = inl (omega arith)
-order_of (suc a) zero = inr (inr (omega arith))
-order_of (suc a) (suc b) = elim (order_of a b)
-    [ inl lt ↦ inl (omega (arith, lt)) | inr more ↦ elim more [ inl e ↦ inr (inl (ap suc e)) | inr gt ↦ inr (inr (omega (arith, gt))) ] ]
 
 -- the next slot among the targets is the next slot of the instruction
 pub next_of : (slots : List (Option Insn)) (slot : ℕ) (insn : Insn) (targets : Targets) (next : ℕ)
@@ -76,25 +69,18 @@ run_on slots places slot last next linked closed run n =
     record {
       begins = omega (arith, begins, is, positive);
       start = next_start slots last next linked n;
-      onward = λ j from below at. elim (order_of j last) [
-        | inl before ↦ let o = run.onward j from before at in let le = o.2 in (o.0, o.1, omega (arith, le, is))
-        | inr more ↦ elim more [
-          | inl same ↦ (next, subst (λ (k : ℕ). IsNextSlot slots k next) (sym same) n, omega arith)
-          | inr after ↦ absurd (linked.gaps last n.insn n.here j after (omega (arith, below, is)) at)
-        ]
+      onward = λ j from below at. elim (cases_order j last) [
+        | inl same ↦ (next, subst (λ (k : ℕ). IsNextSlot slots k next) (sym same) n, omega arith)
+        | inr (inl before) ↦ let o = run.onward j from before at in let le = o.2 in (o.0, o.1, omega (arith, le, is))
+        | inr (inr after) ↦ absurd (linked.gaps last n.insn n.here j after (omega (arith, below, is)) at)
       ];
-      ready = λ j from to at. elim (order_of last j) [
-        | inl after ↦ elim (order_of j next) [
-          | inl below ↦ absurd (linked.gaps last n.insn n.here j after (omega (arith, below, is)) at)
-          | inr more ↦ elim more [
-            | inl same ↦ subst (λ (k : ℕ). IsSlotReady slots places k) (sym same) (λ to e. closed next to done e)
-            | inr past ↦ absurd (omega (arith, past, to))
-          ]
+      ready = λ j from to at. elim (cases_lt last j) [
+        | inl after ↦ elim (cases_order j next) [
+          | inl same ↦ subst (λ (k : ℕ). IsSlotReady slots places k) (sym same) (λ to e. closed next to done e)
+          | inr (inl below) ↦ absurd (linked.gaps last n.insn n.here j after (omega (arith, below, is)) at)
+          | inr (inr past) ↦ absurd (omega (arith, past, to))
         ]
-        | inr more ↦ elim more [
-          | inl same ↦ run.ready j from (omega (arith, same)) at
-          | inr before ↦ run.ready j from (omega (arith, before)) at
-        ]
+        | inr before ↦ run.ready j from (omega (arith, before)) at
       ];
       ends = run_next slots last next linked n ∙ run.ends;
     }
@@ -184,9 +170,9 @@ module _ (maps : ℕ) (old before : List (Option Insn)) (origins : List ℕ) (pl
     room_at None e = let above = p.room.above in omega (arith, above)
     room_at (Some insn) e =
         let above = p.room.above in
-        elim (order_of p.room.from (at + slots_of insn)) [
+        elim (cases_lt p.room.from (at + slots_of insn)) [
           | inl within ↦ absurd (linked.gaps at insn e p.room.from (omega (arith, above)) within p.room.start)
-          | inr more ↦ elim more [ inl same ↦ omega (arith, same) | inr past ↦ omega (arith, past) ]
+          | inr past ↦ omega (arith, past)
         ]
 
     -- if there is no room for the instruction at this slot, the run has no room
@@ -218,16 +204,14 @@ module _ (maps : ℕ) (old before : List (Option Insn)) (origins : List ℕ) (pl
     next_put more origins'' put = record {
       built = put.built;
       keeps = λ place f s. put.keeps place f (p.keeps place f s);
-      front = λ k low to s least. elim (order_of at k) [
-        | inl later ↦
+      front = λ k low to s least. elim (cases_order at k) [
+        | inl here ↦ subst (λ (n : ℕ). IsFront more origins'' n) here (put.front (subst (λ (n : ℕ). IsStart old n) (sym here) s))
+        | inr (inl later) ↦
             let same = put.same (λ start. least at (omega arith) later start) in
             let front = p.front k (omega (arith, later)) to s (λ j above under start. least j (omega (arith, above)) under start) in
             subst (λ (xs : List (Option Insn)). IsFront xs origins'' k) (sym same.0)
             (subst (λ (ys : List ℕ). IsFront after ys k) (sym same.1) front)
-        | inr rest ↦ elim rest [
-          | inl here ↦ subst (λ (n : ℕ). IsFront more origins'' n) here (put.front (subst (λ (n : ℕ). IsStart old n) (sym here) s))
-          | inr before ↦ absurd (omega (arith, before, low))
-        ]
+        | inr (inr before) ↦ absurd (omega (arith, before, low))
       ];
       room = room_more (instruction_at old at) more refl put.grown;
     }

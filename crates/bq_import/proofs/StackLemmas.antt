@@ -1,6 +1,7 @@
 -- The stack of the search, and what is done.
-use Rattle.std.proofs.Common.{◌≡◌, ℕ, zero, suc, ◌+◌, ◌-◌, ◌<◌, ◌≤◌, ◌≢◌, Bool, true, false, true≢false, List, [], ◌∷◌, ◌++◌, length, take, get_or, Option, Some, None, refl, arith, sym, ap, ◌∙◌, subst, ◌⊎◌, inl, inr, length-append, length-take}
+use Rattle.std.proofs.Common.{◌≡◌, ℕ, ◌+◌, ◌-◌, ◌<◌, ◌≤◌, ◌≢◌, Bool, true, false, true≢false, List, [], ◌∷◌, ◌++◌, length, take, get_or, Option, Some, None, refl, arith, sym, ap, ◌∙◌, subst, ◌⊎◌, inl, inr, length-append, length-take}
 use Rattle.std.specs.Prelude.{slice_index, slice_set}
+use Rattle.std.proofs.lemmas.Bool.{cases_eq}
 use Rattle.std.proofs.lemmas.List.{get_or_append_left, get_or-append-add, get_or-take, get_or-set_same, get_or-set_other, length-set}
 use Rattle.std.proofs.lemmas.List.Sums.{sum_by-set}
 use Rattle.bq_insn.specs.declared.Insn.{Insn}
@@ -12,13 +13,6 @@ use Rattle.bq_import.specs.Copies.{IsCopyOfSlot}
 use Rattle.bq_import.specs.Backward.{IsBuilt, IsLengthened}
 use Rattle.bq_import.specs.Search.{AllComeTo, AreWaiting, IsCounted, IsQueued, copy_place, HasCopy, AreCopyPlaces, AreClosed, IsSlotReady, is_open, unopened, IsStacked, IsTop, IsSearching, KeepsOpen, left_of}
 
--- two numbers are equal or not
-pub equal_or_not : (a b : ℕ) → (a ≡ b) ⊎ (a ≢ b)
-equal_or_not zero zero = inl refl
-equal_or_not zero (suc b) = inr (λ e. cc)
-equal_or_not (suc a) zero = inr (λ e. cc)
-equal_or_not (suc a) (suc b) = elim (equal_or_not a b) [ inl e ↦ inl (ap suc e) | inr apart ↦ inr (λ e. apart (omega (arith, e))) ]
-
 -- a slot that was put in place has a copy
 pub now_set : (places : List (Option ℕ)) (slot place : ℕ) → slot < length places → HasCopy (slice_set places slot (Some place)) slot
 now_set places slot place inside = (place, get_or-set_same places slot (Some place) None inside)
@@ -26,7 +20,7 @@ now_set places slot place inside = (place, get_or-set_same places slot (Some pla
 -- each slot that had a copy still has one
 pub still_set : (places : List (Option ℕ)) (slot place : ℕ) → slot < length places → (s : ℕ) → HasCopy places s
     → HasCopy (slice_set places slot (Some place)) s
-still_set places slot place inside s done = elim (equal_or_not s slot) [
+still_set places slot place inside s done = elim (cases_eq s slot) [
   | inl e ↦ subst (λ (n : ℕ). HasCopy (slice_set places slot (Some place)) n) (sym e) (now_set places slot place inside)
   | inr apart ↦ (done.0, get_or-set_other places slot s (Some place) None apart ∙ done.1)
 ]
@@ -49,7 +43,7 @@ comes_next slots stack top to comes is edge =
 -- if control comes to each slot of a list and to one more slot, it comes to each slot of the longer list
 pub comes_more : (slots : List (Option Insn)) (list : List ℕ) (slot : ℕ)
     → AllComeTo slots list → Path slots 0 slot → AllComeTo slots (list ++ slot ∷ [])
-comes_more slots list slot comes way index lt = elim (equal_or_not index (length list)) [
+comes_more slots list slot comes way index lt = elim (cases_eq index (length list)) [
   | inl e ↦
       let last : slice_index (list ++ slot ∷ []) index ≡ slot =
       ap (λ (n : ℕ). get_or (list ++ slot ∷ []) n 0) (let same : index ≡ length list + 0 = omega (arith, e) in same)
@@ -98,7 +92,7 @@ module _ (maps : ℕ) (old back : List (Option Insn)) (origins : List ℕ) (plac
 
     -- each begun slot has a copy or is on the stack
     opened_more : (s : ℕ) → is_open (slice_set opens slot true) s ≡ true → HasCopy places s ⊎ IsStacked (stack ++ slot ∷ []) s
-    opened_more s begun = elim (equal_or_not s slot) [
+    opened_more s begun = elim (cases_eq s slot) [
       | inl e ↦
           inr (let long = length-append stack (slot ∷ []) in
           record { index = length stack; inside = omega (arith, long); slot_is = last_on ∙ sym e })
@@ -112,7 +106,7 @@ module _ (maps : ℕ) (old back : List (Option Insn)) (origins : List ℕ) (plac
 
     -- an index of the longer stack is one of the old stack, or that of the slot
     below_or : (i : ℕ) → i < length stack + 1 → (i < length stack) ⊎ (i ≡ length stack)
-    below_or i lt = elim (equal_or_not i (length stack)) [ inl e ↦ inr e | inr apart ↦ inl (omega (arith, lt, apart)) ]
+    below_or i lt = elim (cases_eq i (length stack)) [ inl e ↦ inr e | inr apart ↦ inl (omega (arith, lt, apart)) ]
 
     -- a path leads from each slot of the old stack to the slot
     to_last : (i : ℕ) → i < length stack → Path old (slice_index stack i) slot
@@ -158,7 +152,7 @@ module _ (maps : ℕ) (old back : List (Option Insn)) (origins : List ℕ) (plac
 
     -- each slot that was begun stays begun
     pub keeps_open : KeepsOpen opens (slice_set opens slot true)
-    keeps_open s begun = elim (equal_or_not s slot) [
+    keeps_open s begun = elim (cases_eq s slot) [
       | inl e ↦ ap (λ (n : ℕ). is_open (slice_set opens slot true) n) e ∙ open_now
       | inr apart ↦ get_or-set_other opens slot s true false apart ∙ begun
     ]
@@ -272,7 +266,7 @@ module _ (maps : ℕ) (old back : List (Option Insn)) (origins : List ℕ) (plac
     -- each place in the list is that of a copy
     known_more : AreCopyPlaces back' origins' (slice_set places slot (Some place))
     unfolding place
-    known_more s p e = elim (equal_or_not s slot) [
+    known_more s p e = elim (cases_eq s slot) [
       | inl same ↦
           let is : place ≡ p =
           some_same _ place p (get_or-set_same places slot (Some place) None on_stack)
@@ -287,7 +281,7 @@ module _ (maps : ℕ) (old back : List (Option Insn)) (origins : List ℕ) (plac
 
     -- control goes from slots that have copies only to slots that have copies
     closed_more : AreClosed old (slice_set places slot (Some place))
-    closed_more from to done edge = elim (equal_or_not from slot) [
+    closed_more from to done edge = elim (cases_eq from slot) [
       | inl e ↦ done_still to (ready to (subst (λ (n : ℕ). IsEdge old n to) e edge))
       | inr apart ↦
           done_still to
@@ -308,7 +302,7 @@ module _ (maps : ℕ) (old back : List (Option Insn)) (origins : List ℕ) (plac
     opened_less s begun = elim (at.opened s begun) [
       | inl done ↦ inl (done_still s done)
       | inr on ↦
-          elim (equal_or_not on.index top.below) [
+          elim (cases_eq on.index top.below) [
             | inl e ↦
                 let same : s ≡ slot = sym on.slot_is ∙ (ap (λ (n : ℕ). slice_index stack n) e ∙ top.slot_is) in
                 inl (subst (λ (n : ℕ). HasCopy (slice_set places slot (Some place)) n) (sym same) done_now)
@@ -347,7 +341,7 @@ module _ (maps : ℕ) (old back : List (Option Insn)) (origins : List ℕ) (plac
     -- the slots of the shorter stack were begun and have no copies yet
     waits_less : AreWaiting (slice_set places slot (Some place)) opens (take (length stack - 1) stack)
     waits_less = record {
-      begun = λ s done. elim (equal_or_not s slot) [
+      begun = λ s done. elim (cases_eq s slot) [
         | inl e ↦
             let long = top.long in
             ap (is_open opens) (e ∙ sym top.slot_is) ∙ at.waiting.opened top.below (omega (arith, long))
