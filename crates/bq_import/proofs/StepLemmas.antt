@@ -10,6 +10,7 @@ use Rattle.bq_bpf.specs.declared.board.CounterCall.TheVariants.{Add, Read}
 use Rattle.bq_bpf.specs.Memory.{Setting, State, Region, InContext, InStack, InEntry, IsGood, Reads, Writes, written}
 use Rattle.bq_bpf.specs.Steps.{Does, Helps, NamesEntry, Takes}
 use Rattle.bq_bpf.specs.Instructions.{distance_of}
+use Rattle.bq_verify.proofs.KnownLemmas.{write_keeps_slot}
 use Rattle.bq_import.specs.Laws.{with_program}
 
 -- the state at another slot
@@ -34,16 +35,11 @@ module _ (f : Setting) (slots : List (Option Insn)) (k : ℕ) where
     set = p.set;
   }
 
-  -- a write leaves the slot as it is, and is the same at another slot, by cases:
+  -- a write is the same at another slot, by cases:
   written_moved : (s : State) (r : Region) (o : ℕ) (bytes : List ℕ) → moved (written s r o bytes) k ≡ written (moved s k) r o bytes
   written_moved s InContext o bytes = refl
   written_moved s InStack o bytes = refl
   written_moved s (InEntry m first) o bytes = refl
-
-  written_slot : (s : State) (r : Region) (o : ℕ) (bytes : List ℕ) → (written s r o bytes).slot ≡ s.slot
-  written_slot s InContext o bytes = refl
-  written_slot s InStack o bytes = refl
-  written_slot s (InEntry m first) o bytes = refl
 
   writes_moved : (s : State) (address : ℕ) (bytes : List ℕ) (t : State)
       → Writes f s address bytes t → Writes (with_program f slots) (moved s k) address bytes (moved t k)
@@ -54,9 +50,6 @@ module _ (f : Setting) (slots : List (Option Insn)) (k : ℕ) where
     good = good_beside address (length bytes) p.region p.offset p.good;
     after = ap (λ (u : State). moved u k) p.after ∙ written_moved s p.region p.offset bytes;
   }
-
-  writes_slot : (s : State) (address : ℕ) (bytes : List ℕ) (t : State) → Writes f s address bytes t → t.slot ≡ s.slot
-  writes_slot s address bytes t p = ap (λ (u : State). u.slot) p.after ∙ written_slot s p.region p.offset bytes
 
   -- what names a map's entry still does, and a helper does the same, at another slot in a setting with another program:
   names_moved : (s : State) (m : ℕ) (shape : MapShape) (n : ℕ)
@@ -93,7 +86,7 @@ module _ (f : Setting) (slots : List (Option Insn)) (k : ℕ) where
         inl (there, moved u k, writes_moved s _ value u writes, ap (λ (v : State). moved v (k + 1)) e),
       ),
     )),
-    ap (λ (v : State). v.slot) e ∙ ap (λ (n : ℕ). n + 1) (writes_slot s _ value u writes),
+    ap (λ (v : State). v.slot) e ∙ ap (λ (n : ℕ). n + 1) (write_keeps_slot f s u _ value writes),
   )
   helps_moved helper s t (inr (inl (two, (m, shape, n, from, value, entry, is, long, reads, none, inr (past, e))))) = (
     inr (inl (
@@ -136,11 +129,11 @@ module _ (f : Setting) (slots : List (Option Insn)) (k : ℕ) where
       ((a, bytes, is, long, reads_moved s _ bytes reads, target, ap (λ (v : State). moved v (k + 1)) e), ap (λ (v : State). v.slot) e)
   does_moved (StoreImm size dst off imm) s t d (a, u, is, writes, e) = (
     (a, moved u k, is, writes_moved s _ _ u writes, ap (λ (v : State). moved v (k + 1)) e),
-    ap (λ (v : State). v.slot) e ∙ ap (λ (n : ℕ). n + 1) (writes_slot s _ _ u writes),
+    ap (λ (v : State). v.slot) e ∙ ap (λ (n : ℕ). n + 1) (write_keeps_slot f s u _ _ writes),
   )
   does_moved (StoreReg size dst off src) s t d (a, v, u, is, from, writes, e) = (
     (a, v, moved u k, is, from, writes_moved s _ _ u writes, ap (λ (v : State). moved v (k + 1)) e),
-    ap (λ (v : State). v.slot) e ∙ ap (λ (n : ℕ). n + 1) (writes_slot s _ _ u writes),
+    ap (λ (v : State). v.slot) e ∙ ap (λ (n : ℕ). n + 1) (write_keeps_slot f s u _ _ writes),
   )
   does_moved (Imm64 dst value) s t d (target, e) = ((target, ap (λ (v : State). moved v (k + 2)) e), ap (λ (v : State). v.slot) e)
   does_moved (MapRef dst index) s t d (m, is, there, target, e) =

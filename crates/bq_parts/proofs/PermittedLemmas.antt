@@ -2,7 +2,6 @@
 use Rattle.std.proofs.Common.{◌≡◌, ℕ, ◌+◌, ◌<◌, ◌≤◌, Bool, true, false, cond, List, [], ◌∷◌, filter, Option, Some, None, refl, sym, subst, ap, ◌∙◌, arith, ltb-true}
 use Rattle.std.specs.Prelude.{◌||◌, ◌==◌, ◌^◌, nat_lt, nat_le, is_some, IfSome}
 use Rattle.std.proofs.lemmas.Bool.Decides.{nat_tests}
-use Rattle.bq_hooks.specs.declared.settled.By.TheVariants as who
 use Rattle.std.specs.Option.{option_map, option_map_or}
 use Rattle.std.proofs.lemmas.Bool.{and_parts, or_right}
 use Rattle.bq_disc.specs.Tasks.{Task, has_id, find_task, first_by, former, id_of}
@@ -15,22 +14,10 @@ use Rattle.bq_installed.specs.Installed.{InstalledFacts}
 use Rattle.bq_hooks.specs.Contexts.{nobody, or_nobody}
 use Rattle.bq_disc.specs.Masks.{allows}
 use Rattle.bq_hooks.specs.Permitted.{may_place, may_pull, task_numbered}
-use Rattle.bq_hooks.specs.Settled.{Settled as Chosen, settled as chosen}
+use Rattle.bq_hooks.proofs.PermittedLemmas.{settled_is_permitted}
 use Rattle.bq_parts.specs.Processors.{Processor, count_of_id, size_of, HasEachOnce}
 use Rattle.bq_parts.specs.Choices.{PolicySemantics, SettledChoice, SettlesBy, Settles, SettlesPull, own_pull, unasked}
 use Rattle.bq_parts.proofs.CountLemmas.{one}
-
--- the choice is permitted whether the answer is, or the own choice stands in for it
-by_test : (b : Bool) (permitted : ℕ → Bool) (r0 own : ℕ) → permitted r0 ≡ b → permitted own ≡ true
-    → permitted (cond {A = Chosen} b (record { choice = r0; by = who.Policy }) (record { choice = own; by = who.Discipline })).choice
-    ≡ true
-by_test true permitted r0 own e o = e
-by_test false permitted r0 own e o = o
-
--- an answer is the choice where it is permitted, and else the own choice is
-pub answer_is_permitted : (permitted : ℕ → Bool) (r0 own : ℕ)
-    → permitted own ≡ true → permitted (chosen permitted (Some r0) own).choice ≡ true
-answer_is_permitted permitted r0 own o = by_test (permitted r0) permitted r0 own refl o
 
 -- if the own choice is permitted, what is settled is, with a policy or without one
 settles_by : (s : PolicySemantics) (policy : Option Accepted) (context : Version → List ℕ) (installed : InstalledFacts)
@@ -39,7 +26,7 @@ settles_by : (s : PolicySemantics) (policy : Option Accepted) (context : Version
     → permitted settled.choice ≡ true
 settles_by s None context installed now processor permitted own settled o h = ap (λ (x : SettledChoice). permitted x.choice) h ∙ o
 settles_by s (Some policy) context installed now processor permitted own settled o h =
-    ap permitted h.choice ∙ answer_is_permitted permitted h.r0 own o
+    ap permitted h.choice ∙ settled_is_permitted permitted (Some h.r0) own o
 
 -- where the own choice is permitted, what is settled is
 pub settled_permitted : (s : PolicySemantics) (context : Version → List ℕ) (installed : InstalledFacts) (now processor : ℕ)

@@ -30,20 +30,21 @@ use Rattle.bq_verify.specs.Straight.{IsStraightBefore}
 use Rattle.bq_verify.proofs.OneStepLemmas.{no_step, one_step}
 use Rattle.bq_verify.proofs.PassLemmas.{waits_at_slot, none_waits}
 
--- a write leaves the slot
+-- the state after a write has the same slot
 same_slot : (s : State) (region : Region) (offset : ℕ) (bytes : List ℕ) → (written s region offset bytes).slot ≡ s.slot
 same_slot s InContext offset bytes = refl
 same_slot s InStack offset bytes = refl
 same_slot s (InEntry m first) offset bytes = refl
 
-stored : (f : Setting) (s u : State) (address : ℕ) (bytes : List ℕ) → Writes f s address bytes u → u.slot ≡ s.slot
-stored f s u address bytes w = ap (λ (x : State). x.slot) w.after ∙ same_slot s w.region w.offset bytes
+-- a write leaves the slot as it is
+pub write_keeps_slot : (f : Setting) (s u : State) (address : ℕ) (bytes : List ℕ) → Writes f s address bytes u → u.slot ≡ s.slot
+write_keeps_slot f s u address bytes w = ap (λ (x : State). x.slot) w.after ∙ same_slot s w.region w.offset bytes
 
 -- a helper's call goes on to the next slot
 helped : (f : Setting) (h : ℤ) (s t : State) → Helps f h s t → t.slot ≡ s.slot + 1
 helped f h s t (inl (e, (m, shape, k, names, is))) = ap (λ (x : State). x.slot) is
 helped f h s t (inr (inl (e, (m, shape, k, from, value, names, from_is, long, reads, zero_is, inl (lt, u, writes, is))))) =
-    ap (λ (x : State). x.slot) is ∙ ap (λ n. n + 1) (stored f s u _ value writes)
+    ap (λ (x : State). x.slot) is ∙ ap (λ n. n + 1) (write_keeps_slot f s u _ value writes)
 helped f h s t (inr (inl (e, (m, shape, k, from, value, names, from_is, long, reads, zero_is, inr (le, is))))) =
     ap (λ (x : State). x.slot) is
 helped f h s t (inr (inr (inl (e, is)))) = ap (λ (x : State). x.slot) is
@@ -57,9 +58,9 @@ leaves_does f (Neg w dst) s t (a, p, target, is) = inl (refl, ap (λ (x : State)
 leaves_does f (End order bits dst) s t (a, p, target, is) = inl (refl, ap (λ (x : State). x.slot) is)
 leaves_does f (Load size signed dst src off) s t (a, bytes, p, long, reads, target, is) = inl (refl, ap (λ (x : State). x.slot) is)
 leaves_does f (StoreImm size dst off imm) s t (a, u, p, writes, is) =
-    inl (refl, ap (λ (x : State). x.slot) is ∙ ap (λ n. n + 1) (stored f s u _ _ writes))
+    inl (refl, ap (λ (x : State). x.slot) is ∙ ap (λ n. n + 1) (write_keeps_slot f s u _ _ writes))
 leaves_does f (StoreReg size dst off src) s t (a, v, u, p, q, writes, is) =
-    inl (refl, ap (λ (x : State). x.slot) is ∙ ap (λ n. n + 1) (stored f s u _ _ writes))
+    inl (refl, ap (λ (x : State). x.slot) is ∙ ap (λ n. n + 1) (write_keeps_slot f s u _ _ writes))
 leaves_does f (Imm64 dst value) s t (target, is) = inl (refl, ap (λ (x : State). x.slot) is)
 leaves_does f (MapRef dst index) s t (m, i, there, target, is) = inl (refl, ap (λ (x : State). x.slot) is)
 leaves_does f (Goto off) s t (to, leads, is) = inr (off, refl, subst (LeadsTo s.slot off) (sym (ap (λ (x : State). x.slot) is)) leads)
