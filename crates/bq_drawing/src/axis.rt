@@ -36,14 +36,14 @@ pub fn write_axis(
     write_axis_name(frame.unit.name(), bottom.saturating_add(NAME), text)
 }
 
-/// The moment of a line: `number` steps after the first line.
+/// Returns the moment of a line: `number` steps after the first line.
 fn line_at(step: u64, number: u8, scale: &Scale) -> u64
     ensures { result ≡ line_at scale.now.extent step number }
 {
     first_line(step, scale).saturating_add(step.saturating_mul(u64::from(number)))
 }
 
-/// The first multiple of the step that is not before the time that is drawn.
+/// Returns the first multiple of the step that is not before the time that is drawn.
 fn first_line(step: u64, scale: &Scale) -> u64
     ensures { result ≡ first_axis_line scale.now.extent step }
 {

@@ -60,7 +60,7 @@ pub struct Written {
 }
 
 impl Drawing {
-    /// A drawing of nothing, without processors.
+    /// Returns a drawing of nothing, without processors.
     pub fn new(alloc: Global) -> Drawing
         ensures { result ≡ nothing_of 0 }
     {
@@ -72,7 +72,7 @@ impl Drawing {
         }
     }
 
-    /// A drawing of nothing, with this many processors.
+    /// Returns a drawing of nothing, with this many processors.
     pub fn of(alloc: Global, processors: usize) -> Result<Drawing, AllocError>
         ensures { IfOk result (λ d. d ≡ nothing_of processors) }
     {
@@ -130,7 +130,7 @@ impl Drawing {
         Ok(())
     }
 
-    /// The whole picture within its root. Waits and wakes are drawn in the order in which they begin.
+    /// Returns the whole picture within its root, and its height. Waits and wakes are drawn in the order in which they begin.
     pub fn write(
         &self,
         window: &Window,
@@ -162,7 +162,7 @@ impl Drawing {
         Ok(Written { text, height })
     }
 
-    /// The legend below the rows, and how high the picture is together with it.
+    /// Returns the legend below the rows, and how high the picture is together with it.
     fn legend(&self, rows: &WrittenRows, frame: &Frame<'_>) -> Result<Written, AllocError>
         ensures text { IfOk result (λ legend. string_bytes legend.text ≡ legend_text (picture_setting frame.now)
             (tasks_shown frame.now.admitted.now self.now.tasks) (key_beside self.now.links rows.now) (legend_top rows.now.bottom)) }
@@ -178,7 +178,7 @@ impl Drawing {
         Ok(Written { text, height })
     }
 
-    /// The tasks that appear, in the order in which they were admitted.
+    /// Returns the tasks that appear, in the order in which they were admitted.
     fn tasks_shown(&self, admitted: &AdmittedTasks) -> Result<Vec<u16>, AllocError>
         ensures { IfOk result (λ tasks. tasks.items ≡ tasks_shown admitted.now self.now.tasks) }
     {
@@ -201,7 +201,7 @@ impl Drawing {
         Ok(())
     }
 
-    /// What the legend explains besides the tasks.
+    /// Returns what the legend explains besides the tasks.
     fn key(&self, rows: &WrittenRows) -> Key
         ensures { result ≡ key_beside self.now.links rows.now }
     {
@@ -213,14 +213,14 @@ impl Drawing {
         }
     }
 
-    /// Whether there is a line of this kind.
+    /// Tells whether there is a line of this kind.
     fn has_link(&self, kind: LinkKind) -> bool
         ensures { result ≡ has_line kind self.now.links }
     {
         self.links.iter().any(|link| link.kind.is(kind))
     }
 
-    /// The rows of the window, and the lines between them.
+    /// Writes the rows of the window, and the lines between them.
     fn write_rows(&self, window: &Window, frame: &Frame<'_>) -> Result<WrittenRows, AllocError>
         ensures { IfOk result (AreDrawn window.now (picture_setting frame.now) self.now) }
     {
@@ -278,7 +278,7 @@ impl Drawing {
     }
 }
 
-/// Where the legend begins, below rows that end at this height.
+/// Returns where the legend begins, below rows that end at this height.
 fn legend_top(bottom: usize) -> usize
     ensures { result ≡ legend_top bottom }
 {

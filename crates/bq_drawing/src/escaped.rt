@@ -26,7 +26,7 @@ fn write_letter(letter: char, text: &mut String) -> Result<(), AllocError>
     }
 }
 
-/// What replaces a character that XML does not take as it is. `None` if XML takes it.
+/// Returns what replaces a character that XML does not take as it is. `None` if XML takes it.
 fn in_place_of(c: char) -> Option<&'static str>
     ensures { option_map (λ place. place.now) result ≡ in_place_of c }
 {

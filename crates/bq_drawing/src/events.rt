@@ -68,7 +68,7 @@ pub fn write_mark(
     )
 }
 
-/// The arguments of a mark: a task, and a processor under the name that says how it is related.
+/// Returns the arguments of a mark: a task, and a processor under the name that says how it is related.
 pub fn task_args(alloc: Global, task: u16, name: &str, processor: u8) -> Result<String, AllocError>
     ensures { IfOk result (λ text. string_bytes text ≡ task_args task name.now processor) }
 {

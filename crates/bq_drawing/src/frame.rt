@@ -26,8 +26,8 @@ pub struct Frame<'a> {
 }
 
 impl Frame<'_> {
-    /// The number of a task's colour, by its place among all tasks of the trace, whether these are shown or not. The colours go round,
-    /// one further each time: if tasks go round a few processors, a row still has tasks of every colour.
+    /// Returns the number of a task's colour, by its place among all tasks of the trace, whether these are shown or not. The colours
+    /// go round, one further each time: if tasks go round a few processors, a row still has tasks of every colour.
     pub fn colour(&self, task: u16) -> usize
         ensures { result ≡ colour_of self.now.admitted.now task }
     {
@@ -35,7 +35,7 @@ impl Frame<'_> {
         (place % COLOURS + place / COLOURS % COLOURS) % COLOURS
     }
 
-    /// A time, to be written in the picture's unit.
+    /// Returns a time, to be written in the picture's unit.
     pub fn amount(&self, time: u64) -> Amount
         ensures { result ≡ record { time = time; unit = self.now.unit } }
     {
@@ -53,7 +53,7 @@ impl Frame<'_> {
         }
     }
 
-    /// How wide the name of a task is on a run, in hundredths of a unit.
+    /// Returns how wide the name of a task is on a run, in hundredths of a unit.
     pub fn label_width(&self, task: u16) -> u64
         ensures { result ≡ label_width self.now.names.now task }
     {
@@ -62,7 +62,7 @@ impl Frame<'_> {
             .saturating_add(CHARACTER)
     }
 
-    /// How many characters the name of a task has, or its number if it has no name.
+    /// Returns how many characters the name of a task has, or its number if it has no name.
     fn name_length(&self, task: u16) -> u64
         ensures { result ≡ name_length self.now.names.now task }
     {
@@ -73,7 +73,7 @@ impl Frame<'_> {
     }
 }
 
-/// How many characters a text has.
+/// Returns how many characters a text has.
 fn letters(text: &str) -> u64
     ensures { result ≡ length (chars text.now) }
 {

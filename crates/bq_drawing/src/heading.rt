@@ -74,7 +74,7 @@ fn write_times(frame: &Frame<'_>, text: &mut String) -> Result<(), AllocError>
     write!(text, "{from} to {to} {unit}</text>\n")
 }
 
-/// The name of a discipline.
+/// Returns the name of a discipline.
 fn acronym(discipline: DisciplineName) -> &'static str
     ensures { result.now ≡ acronym discipline }
 {

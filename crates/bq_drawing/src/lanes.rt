@@ -31,7 +31,7 @@ impl Model for Lanes {
 }
 
 impl Lanes {
-    /// No lanes yet.
+    /// Returns no lanes.
     pub fn new(alloc: Global) -> Lanes
         ensures { result ≡ [] }
     {
@@ -40,7 +40,7 @@ impl Lanes {
         }
     }
 
-    /// How many lanes there are.
+    /// Returns how many lanes there are.
     pub fn count(&self) -> usize
         ensures { result ≡ length self.now }
     {
@@ -66,7 +66,7 @@ impl Lanes {
         Ok(Some(self.free.len() - 1))
     }
 
-    /// The first lane that is free at a moment.
+    /// Returns the first lane that is free at a moment.
     fn first_free(&self, at: u64) -> Option<usize>
         ensures value { result ≡ first_free at self.now }
         ensures within { IfSome result (λ lane. lane < length self.now) }
@@ -75,7 +75,7 @@ impl Lanes {
     }
 }
 
-/// Whether something that lasts until one moment is over at another.
+/// Tells whether something that lasts until one moment is over at another.
 fn is_over(until: u64, at: u64) -> bool
     ensures { result ≡ nat_le until at }
 {

@@ -35,7 +35,7 @@ pub struct Key {
 }
 
 impl Key {
-    /// Whether something found no room.
+    /// Tells whether something found no room.
     fn leaves_out(&self) -> bool
         ensures { result ≡ leaves_out self.now }
     {
@@ -43,7 +43,7 @@ impl Key {
     }
 }
 
-/// How high the legend of this many tasks is, with this key.
+/// Returns how high the legend of this many tasks is, with this key.
 pub fn legend_height(tasks: usize, key: &Key) -> usize
     ensures { result ≡ legend_height tasks key.now }
 {
@@ -72,7 +72,7 @@ pub fn write_legend(
     write_left_out(key, top.saturating_add(LINE).saturating_add(14), text)
 }
 
-/// The height of the key, below this many tasks.
+/// Returns the height of the key, below this many tasks.
 fn key_top(tasks: usize, first: usize) -> usize
     ensures { result ≡ key_top tasks first }
 {

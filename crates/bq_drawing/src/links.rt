@@ -45,7 +45,7 @@ struct Line {
 }
 
 impl LinkKind {
-    /// Whether both are the same kind.
+    /// Tells whether both kinds are the same.
     pub fn is(self, other: LinkKind) -> bool
         ensures { result ≡ same_kind self other }
     {
@@ -83,7 +83,7 @@ impl RowLink {
         self.write_title(frame, text)
     }
 
-    /// The height at which a line between two heights enters a picture that begins at a moment.
+    /// Returns the height at which a line between two heights enters a picture that begins at a moment.
     fn enters_at(&self, begin: usize, end: usize, first: u64) -> usize
         ensures { result ≡ enters_at self.now begin end first }
     {
@@ -98,7 +98,7 @@ impl RowLink {
         }
     }
 
-    /// How much of the height between the line's ends is left from a moment on.
+    /// Returns how much of the height between the line's ends is left from a moment on.
     fn height_left(&self, begin: usize, end: usize, first: u64) -> usize
         ensures { result ≡ height_left self.now begin end first }
     {
@@ -120,7 +120,7 @@ impl RowLink {
     }
 }
 
-/// The height at which a line leaves its band: at the edge that is nearer to the other band.
+/// Returns the height at which a line leaves its band: at the edge that is nearer to the other band.
 fn leaves_at(top_from: usize, top_to: usize) -> usize
     ensures { result ≡ leaves_at top_from top_to }
 {
@@ -131,7 +131,7 @@ fn leaves_at(top_from: usize, top_to: usize) -> usize
     }
 }
 
-/// The height at which a line ends: at the nearer edge of the other band.
+/// Returns the height at which a line ends: at the nearer edge of the other band.
 fn ends_at(top_from: usize, top_to: usize) -> usize
     ensures { result ≡ link_end top_from top_to }
 {

@@ -16,7 +16,7 @@ pub struct Look {
 const UNTITLED: &str = "Schedule";
 
 impl Look {
-    /// The title of the picture.
+    /// Returns the title of the picture.
     pub fn title(&self) -> &str
         ensures { result.now ≡ title_of self.now }
     {

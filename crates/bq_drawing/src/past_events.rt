@@ -44,7 +44,7 @@ impl Model for PastEvents {
 }
 
 impl PastEvents {
-    /// No past events, of no processors and no tasks.
+    /// Returns no past events, of no processors and no tasks.
     pub fn new(alloc: Global) -> PastEvents
         ensures { result ≡ empty_past 0 0 }
     {
@@ -57,7 +57,7 @@ impl PastEvents {
         }
     }
 
-    /// No past events yet, with this many processors and every task.
+    /// Returns no past events, of this many processors and every task.
     pub fn of(alloc: Global, processors: usize) -> Result<PastEvents, AllocError>
         ensures { IfOk result (λ h. h ≡ empty_past processors TASKS) }
     {
@@ -82,14 +82,14 @@ impl PastEvents {
         })
     }
 
-    /// The number of the next arrow.
+    /// Returns the number of the next arrow.
     pub fn next_arrow(&self) -> u64
         ensures { result ≡ next_arrow self.now }
     {
         self.arrows.saturating_add(1)
     }
 
-    /// The number of the next arrow if an arrow begins, otherwise `None`.
+    /// Returns the number of the next arrow if an arrow begins, otherwise `None`.
     fn arrow_if(&self, begins: bool) -> Option<u64>
         ensures { result ≡ arrow_if begins self.now }
     {
@@ -100,7 +100,7 @@ impl PastEvents {
         }
     }
 
-    /// A task was woken. If `begins`, the arrow of its wake begins.
+    /// Notes that a task was woken. If `begins`, the arrow of its wake begins.
     pub fn keep_wake(&mut self, task: u16, begins: bool)
         ensures { self.new ≡ after_wake task begins self.old }
     {
@@ -111,7 +111,7 @@ impl PastEvents {
         }
     }
 
-    /// The arrow from a task's wake to its next run, if there is one.
+    /// Returns the arrow from a task's wake to its next run, if there is one.
     fn wake_arrow(&self, task: u16) -> Option<u64>
         ensures { result ≡ wake_arrow self.now task }
     {
@@ -121,7 +121,7 @@ impl PastEvents {
         }
     }
 
-    /// A task started at a processor. If `begins`, an arrow leads there from the task's last run.
+    /// Notes that a task started at a processor. If `begins`, an arrow leads there from the task's last run.
     pub fn keep_start(&mut self, processor: u8, task: u16, begins: bool)
         ensures { self.new ≡ after_start processor task begins self.old }
     {
@@ -136,7 +136,7 @@ impl PastEvents {
         }
     }
 
-    /// The arrows that end at the beginning of a processor's current run.
+    /// Returns the arrows that end at the beginning of a processor's current run.
     pub fn arrows_to(&self, processor: u8) -> Arrows
         ensures { result ≡ arrows_to self.now processor }
     {
@@ -146,7 +146,7 @@ impl PastEvents {
         }
     }
 
-    /// A run of a task ended. `part` is the shown part of it, if any.
+    /// Notes that a run of a task ended. `part` is the shown part of it, if any.
     pub fn keep_run(&mut self, task: u16, part: Option<Slice>)
         ensures { self.new ≡ after_run task part self.old }
     {
@@ -155,7 +155,7 @@ impl PastEvents {
         }
     }
 
-    /// The shown part of a task's last run that ended, if any.
+    /// Returns the shown part of a task's last run that ended, if any.
     pub fn last_run(&self, task: u16) -> Option<Slice>
         ensures { result ≡ last_run self.now task }
     {
@@ -165,7 +165,7 @@ impl PastEvents {
         }
     }
 
-    /// How many tasks were runnable at a processor when the count was last written. `None` if the processor does not exist.
+    /// Returns how many tasks were runnable at a processor when the count was last written. `None` if the processor does not exist.
     pub fn written_count(&self, processor: u8) -> Option<u64>
         ensures { result ≡ written_count self.now processor }
     {

@@ -56,7 +56,7 @@ struct ShownParts {
 }
 
 impl Perfetto {
-    /// A form for what is in the window.
+    /// Returns a form for what is in the window.
     pub fn new(alloc: Global, window: Window) -> Perfetto
         ensures window { result.window ≡ window }
         ensures history { result.history ≡ empty_past 0 0 }
@@ -148,7 +148,7 @@ impl Perfetto {
         write_count(&reading, count, reported, text)
     }
 
-    /// The run from whose end an arrow leads to a migration, if it is shown.
+    /// Returns the run from whose end an arrow leads to a migration, if it is shown.
     fn left_run(&self, migration: Option<Start>) -> Option<Slice>
         ensures { result ≡ left_run self.now.history migration }
     {
@@ -195,7 +195,7 @@ impl Perfetto {
     }
 }
 
-/// The parts of a change that a window shows.
+/// Returns the parts of a change that a window shows.
 fn shown_of(window: &Window, change: &Change) -> ShownParts
     ensures { ShowsChange window.now change.now result }
 {
@@ -209,7 +209,7 @@ fn shown_of(window: &Window, change: &Change) -> ShownParts
     }
 }
 
-/// The decision, if it overruled a policy's answer and is shown.
+/// Returns the decision, if it overruled a policy's answer and is shown.
 fn shown_decision(
     window: &Window,
     decision: Option<Decision>,
@@ -227,7 +227,7 @@ fn shown_decision(
     }
 }
 
-/// The wake, if it is shown.
+/// Returns the wake, if it is shown.
 fn shown_wake(window: &Window, wake: Option<Wake>) -> Option<Wake>
     ensures { IsShownWake window.now wake result }
 {
@@ -239,7 +239,7 @@ fn shown_wake(window: &Window, wake: Option<Wake>) -> Option<Wake>
     }
 }
 
-/// The pull, if it is shown.
+/// Returns the pull, if it is shown.
 fn shown_pull(window: &Window, pull: Option<PulledTask>) -> Option<PulledTask>
     ensures { IsShownPull window.now pull result }
 {
@@ -251,7 +251,7 @@ fn shown_pull(window: &Window, pull: Option<PulledTask>) -> Option<PulledTask>
     }
 }
 
-/// The start of a task on another processor than before, if it is shown.
+/// Returns the start of a task on another processor than before, if it is shown.
 fn shown_migration(window: &Window, start: Option<Start>) -> Option<Start>
     ensures { IsShownMigration window.now start result }
 {
@@ -263,7 +263,7 @@ fn shown_migration(window: &Window, start: Option<Start>) -> Option<Start>
     }
 }
 
-/// The reading of a clock, if it is shown.
+/// Returns the reading of a clock, if it is shown.
 fn shown_reading(window: &Window, reading: Option<ClockReading>) -> Option<ClockReading>
     ensures { IsShownReading window.now reading result }
 {
@@ -275,7 +275,7 @@ fn shown_reading(window: &Window, reading: Option<ClockReading>) -> Option<Clock
     }
 }
 
-/// Whether the moment of a reading is shown.
+/// Tells whether the moment of a reading is shown.
 fn shows_moment(window: &Window, reading: &ClockReading) -> bool
     ensures { IsTrue result ↔ ShowsMoment window.now reading.now.processor reading.now.current }
 {
@@ -284,7 +284,7 @@ fn shows_moment(window: &Window, reading: &ClockReading) -> bool
         && window.shows_processor(reading.processor)
 }
 
-/// The name of a task, or its number if it has none.
+/// Returns the name of a task, or its number if it has none.
 fn label(alloc: Global, task: u16, names: &Names) -> Result<String, AllocError>
     ensures { IfOk result (λ text. string_bytes text ≡ label_of task (name_of names.now task)) }
 {
@@ -294,7 +294,7 @@ fn label(alloc: Global, task: u16, names: &Names) -> Result<String, AllocError>
     }
 }
 
-/// A text as JSON.
+/// Returns a text as JSON.
 fn quoted(alloc: Global, text: &str) -> Result<String, AllocError>
     ensures { IfOk result (λ quoted. string_bytes quoted ≡ json_text text.now) }
 {
@@ -302,7 +302,7 @@ fn quoted(alloc: Global, text: &str) -> Result<String, AllocError>
     value.to_string(alloc)
 }
 
-/// The name of a task's run, as JSON.
+/// Returns the name of a task's run, as JSON.
 fn run_name(alloc: Global, task: u16, names: &Names) -> Result<String, AllocError>
     ensures { IfOk result (λ text. string_bytes text ≡ run_name names.now task) }
 {
@@ -310,7 +310,7 @@ fn run_name(alloc: Global, task: u16, names: &Names) -> Result<String, AllocErro
     quoted(alloc, label.as_str())
 }
 
-/// The name of what happens to a task, as JSON.
+/// Returns the name of what happens to a task, as JSON.
 fn act_name(alloc: Global, act: &str, task: u16, names: &Names) -> Result<String, AllocError>
     ensures { IfOk result (λ text. string_bytes text ≡ act_name names.now act.now task) }
 {
@@ -319,7 +319,7 @@ fn act_name(alloc: Global, act: &str, task: u16, names: &Names) -> Result<String
     quoted(alloc, name.as_str())
 }
 
-/// The figures of a run, as JSON.
+/// Returns the figures of a run, as JSON.
 fn run_args(
     alloc: Global,
     figures: &TaskFigures,
@@ -332,6 +332,7 @@ fn run_args(
     value.to_string(alloc)
 }
 
+/// Returns the object of the figures of a run.
 fn run_value(
     alloc: Global,
     figures: &TaskFigures,
@@ -468,6 +469,7 @@ fn write_count(
 }
 
 impl ScheduleForm for Perfetto {
+    /// Adds the text before all events, and the tracks of the processors.
     fn begin(
         &mut self,
         schedule: &Schedule,
@@ -482,6 +484,7 @@ impl ScheduleForm for Perfetto {
         write_head(self.alloc, schedule.processors(), text)
     }
 
+    /// Adds the events of a change, of what is shown of it.
     fn take(
         &mut self,
         change: &Change,
@@ -503,6 +506,7 @@ impl ScheduleForm for Perfetto {
         self.take_reading(shown.reading, schedule, text)
     }
 
+    /// Adds the shown parts of the runs that still go on, and the text after all events.
     fn end(
         &mut self,
         schedule: &Schedule,

@@ -14,7 +14,7 @@ const BASIS: u32 = 0x811c_9dc5;
 pub struct PictureName(u32);
 
 impl PictureName {
-    /// The name for what is drawn in a theme. It is the 32-bit hash of Fowler, Noll and Vo (FNV-1a).
+    /// Returns the name for what is drawn in a theme. It is the 32-bit hash of Fowler, Noll and Vo (FNV-1a).
     pub fn of(theme: Theme, drawn: &str) -> PictureName
         ensures { result.0 ≡ hash_of theme drawn.now }
     {
@@ -27,7 +27,7 @@ impl PictureName {
     }
 }
 
-/// The letter of a theme.
+/// Returns the letter of a theme.
 fn theme_letter(theme: Theme) -> u8
     ensures { result ≡ theme_letter theme }
 {
@@ -38,7 +38,7 @@ fn theme_letter(theme: Theme) -> u8
     }
 }
 
-/// The hash after one more byte.
+/// Returns the hash after one more byte.
 fn mixed(hash: u32, byte: u8) -> u32
     ensures { result ≡ mixed hash byte }
 {
@@ -48,6 +48,7 @@ fn mixed(hash: u32, byte: u8) -> u32
 impl fmt::Display for PictureName {
     ghost output = { λ n. Some (picture_name_text n.0) };
 
+    /// Writes the name: `bqsim-` and eight hex digits.
     fn fmt<W: fmt::Write>(&self, f: &mut fmt::Formatter<W>) -> fmt::Result {
         let hash = self.0;
         write!(f, "bqsim-{hash:08x}")

@@ -36,7 +36,7 @@ impl Model for ProcessorRow {
 }
 
 impl ProcessorRow {
-    /// A row with nothing in it.
+    /// Returns a row with nothing in it.
     pub(crate) fn new(alloc: Global) -> ProcessorRow
         ensures { result ≡ empty_drawing_row }
     {
@@ -119,7 +119,7 @@ impl ProcessorRow {
     }
 }
 
-/// The waits or the wakes of a row in the order in which they begin.
+/// Returns the waits or the wakes of a row in the order in which they begin.
 fn in_order(alloc: Global, given: &[TaskInterval]) -> Result<Vec<TaskInterval>, AllocError>
     ensures { IfOk result (λ sorted. ArePutInOrder given.now sorted.items) }
 {
@@ -128,7 +128,7 @@ fn in_order(alloc: Global, given: &[TaskInterval]) -> Result<Vec<TaskInterval>, 
     Ok(sorted)
 }
 
-/// Where the band of a row begins that is below this height and has this many levels of wakes above it.
+/// Returns where the band of a row begins that is below this height and has this many levels of wakes above it.
 fn band_top(bottom: usize, levels: usize) -> usize
     ensures { result ≡ saturating_sum bottom (levels * level_height + 4) }
 {
@@ -137,7 +137,7 @@ fn band_top(bottom: usize, levels: usize) -> usize
         .saturating_add(ABOVE)
 }
 
-/// Where a row ends whose band begins at `top` and has this many lanes of waits below it.
+/// Returns where a row ends whose band begins at `top` and has this many lanes of waits below it.
 fn row_end(top: usize, lanes: usize) -> usize
     ensures { result ≡ saturating_sum top (band_height + (lanes * lane_height + row_gap)) }
 {

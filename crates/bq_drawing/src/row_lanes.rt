@@ -19,7 +19,7 @@ pub(crate) struct LaneShapes {
     pub(crate) left_out: usize,
 }
 
-/// How many levels the wakes need, so that no two arrows overlap.
+/// Returns how many levels the wakes need, so that no two arrows overlap.
 pub(crate) fn levels(
     alloc: Global,
     wakes: &[TaskInterval],
@@ -87,7 +87,7 @@ pub(crate) fn draw_wakes(
     })
 }
 
-/// 1 if an interval found no lane, otherwise 0.
+/// Returns 1 if an interval found no lane, otherwise 0.
 fn without_lane(lane: Option<usize>) -> usize
     ensures { result ≡ without_lane lane }
 {
@@ -129,7 +129,7 @@ fn write_wake_in(
     }
 }
 
-/// A wake, made as long as its arrow is wide.
+/// Returns a wake, made as long as its arrow is wide.
 fn drawn_wake(wake: &TaskInterval, frame: &Frame<'_>) -> TaskInterval
     ensures { result ≡ arrow_of frame.now.scale.extent wake.now }
 {

@@ -4,7 +4,7 @@ ghost use Rattle.bq_drawing.specs.Runs.{run_ended_by, run_on, run_to};
 
 use bq_schedule::{ProcessorFigures, Slice, Start, Stop};
 
-/// A run with this start that ends at a moment.
+/// Returns a run with this start that ends at a moment.
 fn run_to(at: u64, start: &Start) -> Slice
     ensures { result ≡ run_to at start.now }
 {
@@ -16,7 +16,7 @@ fn run_to(at: u64, start: &Start) -> Slice
     }
 }
 
-/// The run that a change ends, if it ends one.
+/// Returns the run that a change ends, if it ends one.
 pub fn ended_run(stop: Option<Stop>) -> Option<Slice>
     ensures { result ≡ run_ended_by stop }
 {
@@ -24,7 +24,7 @@ pub fn ended_run(stop: Option<Stop>) -> Option<Slice>
     Some(run_to(stop.at, &stop.start))
 }
 
-/// The run that goes on at a processor, up to the last reading of its clock.
+/// Returns the run that goes on at a processor, up to the last reading of its clock.
 pub fn run_on(figures: &ProcessorFigures) -> Option<Slice>
     ensures { result ≡ run_on figures.now }
 {

@@ -14,6 +14,7 @@ pub struct Hundredths(pub u64);
 impl fmt::Display for Hundredths {
     ghost output = { λ h. Some (hundredths h.0) };
 
+    /// Writes the number of units, with two decimals.
     fn fmt<W: fmt::Write>(&self, f: &mut fmt::Formatter<W>) -> fmt::Result {
         let whole = self.0 / 100;
         let tenths = self.0 / 10 % 10;
@@ -47,7 +48,7 @@ pub struct Scale {
 }
 
 impl Scale {
-    /// How far a moment is from the left edge.
+    /// Returns how far a moment is from the left edge.
     pub fn place(&self, time: u64) -> Hundredths
         ensures { result.0 ≡ moment_place self.now.extent time }
     {
@@ -57,7 +58,7 @@ impl Scale {
         Hundredths(LEFT * 100 + part as u64)
     }
 
-    /// How wide the time between two moments is drawn: at least as wide as can be seen.
+    /// Returns how wide the time between two moments is drawn: at least as wide as can be seen.
     pub fn width(&self, from: u64, to: u64) -> Hundredths
         ensures { result.0 ≡ drawn_width self.now.extent from to }
     {
@@ -66,7 +67,7 @@ impl Scale {
         Hundredths(end.saturating_sub(begin).max(LEAST))
     }
 
-    /// The time that the arrow of a wake covers, in nanoseconds.
+    /// Returns the time that the arrow of a wake covers, in nanoseconds.
     pub fn arrow(&self) -> u64
         ensures { result ≡ arrow_time self.now.extent }
     {

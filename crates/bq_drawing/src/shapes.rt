@@ -36,7 +36,7 @@ pub struct DrawnRun {
 impl DrawnRun {
     ghost use Rattle.bq_drawing.specs.Holdings.{drawn_run};
 
-    /// This part of a run with this start.
+    /// Returns what is drawn of this part of a run with this start.
     pub fn of(start: &Start, part: &Slice) -> DrawnRun
         ensures { result ≡ drawn_run start.now part.now }
     {
@@ -139,7 +139,7 @@ fn write_run_name(
     text.push_str("</text>\n")
 }
 
-/// The width that a task's number needs: ten units for each digit, and ten more.
+/// Returns the width that a task's number needs: ten units for each digit, and ten more.
 fn number_width(task: u16) -> u64
     ensures { result ≡ number_width task }
 {
@@ -190,7 +190,7 @@ fn write_label_start(
     )
 }
 
-/// The tooltip of a run.
+/// Returns the tooltip of a run.
 fn run_title(alloc: Global, run: &DrawnRun, frame: &Frame<'_>) -> Result<String, AllocError>
     ensures { IfOk result (λ title. string_bytes title ≡ run_title (picture_setting frame.now) run.now) }
 {
@@ -242,7 +242,7 @@ fn write_latency(
     write!(text, ", {latency} {unit} since its wake")
 }
 
-/// The height of a wait in this lane, below the band that begins at `top`.
+/// Returns the height of a wait in this lane, below the band that begins at `top`.
 pub fn wait_height(top: usize, lane: usize) -> usize
     ensures { result ≡ wait_height top lane }
 {
@@ -298,7 +298,7 @@ fn write_wait_times(
     write!(text, " waits {from} to {to} {unit}</title></rect>\n")
 }
 
-/// The height at which the arrow of a wake at this level ends, above the band that begins at `top`.
+/// Returns the height at which the arrow of a wake at this level ends, above the band that begins at `top`.
 pub fn wake_height(top: usize, level: usize) -> usize
     ensures { result ≡ wake_height top level }
 {

@@ -65,6 +65,7 @@ fn write_colours(
     Ok(())
 }
 
+/// Adds the rule that fills what a selector names with a colour.
 fn write_fill(
     name: PictureName,
     what: &str,
@@ -74,6 +75,7 @@ fn write_fill(
     write!(text, ".{name} {what}{{fill:{colour}}}\n")
 }
 
+/// Adds the rule that draws the lines of what a selector names in a colour, and fills nothing.
 fn write_stroke(
     name: PictureName,
     what: &str,

@@ -44,7 +44,7 @@ pub struct Svg {
 }
 
 impl Svg {
-    /// A picture of what is in the window.
+    /// Returns a picture of what is in the window.
     pub fn new(alloc: Global, window: Window, look: Look) -> Svg
         ensures window { result.window ≡ window }
         ensures look { result.look ≡ look }
@@ -130,7 +130,7 @@ impl Svg {
         self.hold_link(line)
     }
 
-    /// The line to a run, if its task ran on another processor before.
+    /// Returns the line to a run, if its task ran on another processor before.
     fn migration_link(&self, start: Option<Start>) -> Option<RowLink>
         ensures { result ≡ migration_link self.now.stops.entries start }
     {
@@ -153,7 +153,7 @@ impl Svg {
         })
     }
 
-    /// When the task of a start last stopped running.
+    /// Returns when the task of a start last stopped running.
     fn left_at(&self, start: &Start) -> u64
         ensures { result ≡ migration_begin self.now.stops.entries start.now }
     {
@@ -249,7 +249,7 @@ fn write_end(text: &mut String) -> Result<(), AllocError>
     text.push_str("</svg>\n")
 }
 
-/// The time that a picture is drawn over: the extent of the schedule in the window, or one nanosecond if no time passes.
+/// Returns the time that a picture is drawn over: the extent of the schedule in the window, or one nanosecond if no time passes.
 fn drawn_over(schedule: &Schedule, window: &Window) -> Extent
     ensures { IsDrawnOver window.now schedule.now result }
 {
@@ -259,7 +259,7 @@ fn drawn_over(schedule: &Schedule, window: &Window) -> Extent
     }
 }
 
-/// The text before all that is drawn: the root with its name, its title, its styles and its hatches.
+/// Returns the text before all that is drawn: the root with its name, its title, its styles and its hatches.
 fn head_of(alloc: Global, look: &Look, drawn: &Written) -> Result<String, AllocError>
     ensures { IfOk result (λ head. IsHead look.now (string_bytes drawn.now.text) drawn.now.height (string_bytes head)) }
 {
@@ -272,7 +272,7 @@ fn head_of(alloc: Global, look: &Look, drawn: &Written) -> Result<String, AllocE
     Ok(text)
 }
 
-/// The styles and the hatches of a picture.
+/// Returns the styles and the hatches of a picture.
 fn styles_of(alloc: Global, name: PictureName, theme: Theme) -> Result<String, AllocError> {
     let mut text = String::new(alloc);
     write_styles(name, theme, &mut text)?;
@@ -300,7 +300,7 @@ fn write_root_title(title: &str, text: &mut String) -> Result<(), AllocError>
     text.push_str("</title>\n")
 }
 
-/// The start of a run that ended, if one did.
+/// Returns the start of a run that ended, if one did.
 fn start_of(stop: Option<Stop>) -> Option<Start>
     ensures { result ≡ option_map (λ s. s.start) stop }
 {
@@ -308,7 +308,7 @@ fn start_of(stop: Option<Stop>) -> Option<Start>
     Some(stop.start)
 }
 
-/// The wait before a run with this start.
+/// Returns the wait before a run with this start.
 fn wait_before(start: Option<Start>) -> Option<Slice>
     ensures { result ≡ option_map wait_before start }
 {
@@ -321,7 +321,7 @@ fn wait_before(start: Option<Start>) -> Option<Slice>
     })
 }
 
-/// The wait that a pull ended, at the processor that the task was taken from.
+/// Returns the wait that a pull ended, at the processor that the task was taken from.
 fn wait_ended(pull: Option<PulledTask>) -> Option<Slice>
     ensures { result ≡ option_map wait_ended pull }
 {
@@ -334,7 +334,7 @@ fn wait_ended(pull: Option<PulledTask>) -> Option<Slice>
     })
 }
 
-/// The line of a pull.
+/// Returns the line of a pull.
 fn pulled_link(pull: Option<PulledTask>) -> Option<RowLink>
     ensures { result ≡ option_map pulled_link pull }
 {
@@ -353,7 +353,7 @@ fn pulled_link(pull: Option<PulledTask>) -> Option<RowLink>
     })
 }
 
-/// The wait of a task that still goes on, if it waits.
+/// Returns the wait of a task that still goes on, if it waits.
 fn wait_of(schedule: &Schedule, id: u16) -> Option<Slice>
     ensures { result ≡ wait_at schedule.now id (task_in_figures schedule.now id).processor }
 {
@@ -371,7 +371,7 @@ fn wait_of(schedule: &Schedule, id: u16) -> Option<Slice>
     })
 }
 
-/// Whether the running task is this one.
+/// Tells whether the running task is this one.
 fn runs(running: Option<Start>, task: u16) -> bool
     ensures { result ≡ is_this task (option_map (λ s. s.task) running) }
 {
@@ -382,6 +382,7 @@ fn runs(running: Option<Start>, task: u16) -> bool
 }
 
 impl ScheduleForm for Svg {
+    /// Makes an empty row for each processor. The text stays as it is.
     fn begin(
         &mut self,
         schedule: &Schedule,
@@ -396,12 +397,14 @@ impl ScheduleForm for Svg {
         Ok(())
     }
 
+    /// Gives a task the next colour, unless it has one.
     fn admit(&mut self, task: u16) -> Result<(), AllocError>
         ensures { OnOk result (self.new ≡ record self.old { admitted = with_admitted task self.old.admitted }) }
     {
         self.admitted.admit(task)
     }
 
+    /// Holds what is shown of a change. The text stays as it is.
     fn take(
         &mut self,
         change: &Change,
@@ -420,6 +423,7 @@ impl ScheduleForm for Svg {
         self.hold_start(change.start)
     }
 
+    /// Holds the runs and the waits that still go on, and adds the picture.
     fn end(
         &mut self,
         schedule: &Schedule,

@@ -20,7 +20,7 @@ macro_rules! with_themes {
 }
 
 impl Theme {
-    /// The theme of this name, if there is one.
+    /// Returns the theme of this name, if there is one.
     pub fn of_word(word: &str) -> Option<Theme>
         ensures { result ≡ theme_of word.now }
     {

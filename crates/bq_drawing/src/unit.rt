@@ -14,7 +14,7 @@ pub enum TimeUnit {
 }
 
 impl TimeUnit {
-    /// The unit of an axis with steps of this length.
+    /// Returns the unit of an axis with steps of this many nanoseconds.
     pub fn of_step(step: u64) -> TimeUnit
         ensures { result ≡ unit_of_step step }
     {
@@ -29,7 +29,7 @@ impl TimeUnit {
         }
     }
 
-    /// How many nanoseconds the unit has.
+    /// Returns how many nanoseconds the unit has.
     pub fn length(self) -> u64
         ensures value { result ≡ unit_length self }
         ensures some { 0 < result }
@@ -42,7 +42,7 @@ impl TimeUnit {
         }
     }
 
-    /// How the unit is written after a number.
+    /// Returns how the unit is written after a number.
     pub fn name(self) -> &'static str
         ensures { result.now ≡ unit_name self }
     {
@@ -67,6 +67,7 @@ pub struct Amount {
 impl fmt::Display for Amount {
     ghost output = { λ a. Some (amount_text a.unit a.time) };
 
+    /// Writes the time, without the unit's name.
     fn fmt<W: fmt::Write>(&self, f: &mut fmt::Formatter<W>) -> fmt::Result {
         let time = self.time;
         match self.unit {
