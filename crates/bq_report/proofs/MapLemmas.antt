@@ -33,7 +33,7 @@ all_zero f (run ∷ runs) h =
     let rest : sum_by f runs ≡ 0 = all_zero f runs (λ k d lt. h (suc k) d (omega arith)) in
     omega (arith, sum_by-cons f run runs, here, rest)
 
--- a number that is not less than another is no less, and one that is told to be at most another is:
+-- a number that is not less than another is no less, and one that a test finds to be at most another is:
 lt_false : (x y : ℕ) → nat_lt x y ≡ false → y ≤ x
 lt_false x y h = grind (arith, nat_tests)
 

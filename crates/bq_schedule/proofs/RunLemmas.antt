@@ -170,7 +170,7 @@ only-there processor j from to None false e = refl
 only-there processor j from to (Some id) true e = only-cond (ltb from to) processor j id from to true e
 only-there processor j from to (Some id) false e = only-cond (ltb from to) processor j id from to false e
 
--- the runs told of a processor, and the one that may go on, are those that its slices make
+-- the reported runs of a processor, and the one that may go on, are those that its slices make
 abbrev pub AreReportedRuns : ℕ → ℕ → History → Type 0
 AreReportedRuns count processor past =
     AreRuns (reported_runs count processor past) (processor_in_figures (figures count past) processor).run (slices_at processor past)
@@ -183,7 +183,7 @@ same_runs reported reported' run run' xs xs' t r x h = record {
   first = λ e. t ∙ h.first (sym r ∙ e);
 }
 
--- after a moment with a sight, the runs told of a processor and the one that may go on are those of its slices
+-- after a moment with a sight, the reported runs of a processor and the one that may go on are those of its slices
 reported-there : (count : ℕ) (past : History) (processor : ℕ) (s' : Figures) (x : Sight) (run : Option Slice) (b : Bool)
     → IsOfProcessors count past → IsSightWithin count (Some x) → processor < count → Shows (figures count past) s' (Some x)
     → run ≡ run_seen (figures count past) (Some x) → eqb x.processor processor ≡ b
@@ -244,6 +244,6 @@ reported count (m ∷ past) processor h inside =
     (reported-step count past processor (figures_after s m.event m.answer) o (change s m.event m.answer).run h.1 h.0 inside
     (shows-after s m.event m.answer w) (seen-change s m.event m.answer w) (reported count past processor h.1 inside))
 
--- in each history the runs told of a processor, with the last one, are the runs of its slices
+-- in each history the reported runs of a processor, with the last one, are the runs of its slices
 pub reports_runs : ReportsRuns
 reports_runs count past processor h inside = (reported count past processor h inside).all

@@ -186,7 +186,7 @@ not_who (Some start) (Some id) e h =
     let same : start.task ≡ id = cc in
     grind (arith, nat_tests)
 
--- where who ran is another than who is to run, it is told so
+-- where who ran is another than who is to run, the test says so
 is_new : (running : Option Start) (run : Option ℕ) (b : Bool)
     → is_run_by running run ≡ b → option_map (λ (x : Start). x.task) running ≢ run → b ≡ false
 is_new running run true e ne = absurd (ne (who_is running run e))
@@ -267,7 +267,7 @@ IsStartOf count past o st =
     (st.processor < count) × BeginsWith st.processor st.task past o
     × (st.at ≡ clock_after st.processor (clock st.processor past) o)
 
--- a start that is told is of a task that begins to run there, at that reading, by what the answer shows:
+-- a start that is reported is of a task that begins to run there, at that reading, by what the answer shows:
 start-run : (count : ℕ) (past : History) (processor now : ℕ) (o : Option (Option ℕ)) (s' : Figures) (reason : StopReason)
     (stop : Option Stop) (start : Option Start) (st : Start)
     → IsOfProcessors count past → processor < count
@@ -424,7 +424,7 @@ IsStopOf count past e o sp =
     (sp.start.processor < count) × CeasesWith sp.start.processor sp.start.task past o
     × (sp.at ≡ clock_after sp.start.processor (clock sp.start.processor past) o) × (sp.reason ≡ why_left e)
 
--- a stop that is told is of a task that ceases to run there, at that reading, by what the answer shows:
+-- a stop that is reported is of a task that ceases to run there, at that reading, by what the answer shows:
 stop-run : (count : ℕ) (past : History) (e : Event) (processor now : ℕ) (o : Option (Option ℕ)) (s' : Figures)
     (stop : Option Stop) (start : Option Start) (sp : Stop)
     → IsOfProcessors count past → processor < count
@@ -472,7 +472,7 @@ ceased-reported (Some old) reason at j task stop is e here =
     let same : old.task ≡ task = cc in
     and_some stop _ (record { start = old; at = at; reason = reason }) is (here old refl, same)
 
--- of each task that ceases to run a stop is told, by cases:
+-- of each task that ceases to run a stop is reported, by cases:
 ceased-there : (count : ℕ) (past : History) (processor now j task : ℕ) (run : Option ℕ) (s' : Figures) (reason : StopReason)
     (stop : Option Stop) (start : Option Start) (b : Bool)
     → IsOfProcessors count past → processor < count

@@ -409,7 +409,7 @@ pulled-reports processor from now d task run s j c inside p st =
           ∙ ap (λ o. saturating_sum (task_in_figures s j).waited (wait_of_pull j (moves_as from processor at task a) + wait_of_start j o)) st);
     }
 
--- where no pull and no start is told, what changes nothing leaves the waits, and so does what keeps them:
+-- where no pull and no start is reported, what changes nothing leaves the waits, and so does what keeps them:
 nothing-reports : (s : Figures) (j : ℕ) (c : Change) → c.pull ≡ None → c.start ≡ None → ReportsWaited s s j None c
 nothing-reports s j c p st = record {
   since = refl;

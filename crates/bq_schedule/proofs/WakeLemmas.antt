@@ -105,7 +105,7 @@ begins_alone : (b : Bool) → (b && true) ≡ b
 begins_alone true = refl
 begins_alone false = refl
 
--- numbers that are told to differ do
+-- numbers that a test finds to differ do
 differs : (a b : ℕ) → eqb a b ≡ false → a ≢ b
 differs a b e h = grind (arith, nat_tests)
 

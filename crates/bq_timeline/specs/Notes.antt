@@ -35,7 +35,7 @@ lacks_tasks s tasks = list_any is_number tasks && not (list_any (λ id. (task_in
 abbrev pub lacks_processors : ℕ → ℕ → Bool
 lacks_processors count processors = nat_lt count PROCESSORS && (processors % 2 ^ count == 0)
 
--- the note on tasks that are asked for by number, if there is none of them
+-- the note on tasks that are asked for by number, if none of them exists
 abbrev pub tasks_note : Figures → List ℕ → List ℕ
 tasks_note s tasks = if lacks_tasks s tasks then codes "--tasks: there is no task with such a number\n" else []
 
