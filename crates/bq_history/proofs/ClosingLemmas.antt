@@ -8,7 +8,7 @@ use Rattle.bq_history.specs.declared.shared_state.SharedState.{SharedState}
 use Rattle.bq_history.specs.declared.shared_state.Item.{Item}
 use Rattle.bq_history.specs.declared.shared_state.Item.TheVariants.{Part}
 use Rattle.bq_history.proofs.MoveLemmas.{count-append}
-use Rattle.bq_history.proofs.RecordingLemmas.{count_parts}
+use Rattle.bq_history.proofs.RecordingLemmas.{count_parts, has_parts}
 use lib.ListN.{get_elem?}
 use mathlib.Core.Option.{some}
 
@@ -61,10 +61,6 @@ module _ {R P D : Type 0} where
   joined v ps cs is = rw (parts_joined v ps cs is, callers_joined v ps cs is) is
 
 module _ {R P D W : Type 0} (step : W → R → W → Type 0) (kept : W → D) (same : P → P → Bool) (fits : W → P → Type 0) where
-  parts_of_world : (t : SharedState R W) (ps : List P) → Each (fits_item {R = R} kept fits t) (map part_item ps) → Each (fits t.world) ps
-  parts_of_world t [] h = tt
-  parts_of_world t (p ∷ ps) h = (h.0, parts_of_world t ps h.1)
-
   lists_of_callers : (t : SharedState R W) (cs : List (ℕ × List (Receipt R)))
       → Each (fits_item {P = P} kept fits t) (map caller_of cs)
       → Each (λ (c : ℕ × List (Receipt R)). get_elem? t.lists c.0 ≡ some c.1) cs
@@ -91,7 +87,7 @@ module _ {R P D W : Type 0} (step : W → R → W → Type 0) (kept : W → D) (
           t.world,
           subst (λ (k : List R). IsHistory step opening k t.world) same_log e.1.0,
           sym j.0.1,
-          parts_of_world t ps (each_front (fits_item kept fits t) (map part_item ps) (map caller_of cs) first),
+          has_parts kept fits t ps (each_front (fits_item kept fits t) (map part_item ps) (map caller_of cs) first),
         ),
         (λ p.
             let l = e.2 (Part p) in

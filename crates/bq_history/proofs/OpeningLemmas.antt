@@ -1,5 +1,5 @@
 -- The whole at the start: no history, no receipts.
-use Rattle.std.proofs.Common.{◌≡◌, ◌≢◌, ℕ, zero, suc, ◌+◌, ◌<◌, ◌≤◌, List, [], ◌∷◌, map, length, replicate, Bool, cond, eqb, eq-eqb, ne_eqb, refl, sym, ap, subst, arith}
+use Rattle.std.proofs.Common.{◌≡◌, ◌≢◌, ℕ, zero, suc, ◌+◌, ◌<◌, ◌≤◌, List, [], map, length, replicate, Bool, cond, eqb, eq-eqb, ne_eqb, refl, sym, ap, subst, arith}
 use mathlib.Core.Option.{some, some-ne-none, some-injective}
 use mathlib.Core.Logic.{dite}
 use native.Mathlib.Decide.{ℕ_discrete}
@@ -12,7 +12,7 @@ use Rattle.bq_history.specs.declared.shared_state.Receipt.{Receipt}
 use Rattle.bq_history.specs.declared.shared_state.SharedState.{SharedState}
 use Rattle.bq_history.specs.declared.shared_state.Item.{Item}
 use Rattle.bq_history.specs.declared.shared_state.Item.TheVariants.{Journal, Caller, Part}
-use Rattle.bq_history.proofs.RecordingLemmas.{count_parts, no_journal, no_caller}
+use Rattle.bq_history.proofs.RecordingLemmas.{count_parts, no_journal, no_caller, fit_parts}
 
 module _ (R : Type 0) {P : Type 0} (D : Type 0) (same : P → P → Bool) where
   callers_journal : (log : List R) (d : D) (s n : ℕ) → count (same_item {R = R} {D = D} same (Journal log d)) (callers_from s n) ≡ 0
@@ -96,10 +96,6 @@ module _ {R P D W : Type 0} (step : W → R → W → Type 0) (kept : W → D) (
   callers_fit opening all s zero e = tt
   callers_fit opening all s (suc n) e = (replicate_at all s [] (omega arith), callers_fit opening all (s + 1) n (omega arith))
 
-  parts_fit : (t : SharedState R W) (ps : List P) → Each (fits t.world) ps → Each (fits_item {R = R} kept fits t) (map part_item ps)
-  parts_fit t [] h = tt
-  parts_fit t (p ∷ ps) h = (h.0, parts_fit t ps h.1)
-
   -- the first items are there in a good whole without a record
   pub opens : (opening : W) (ps : List P) (n : ℕ) → ((p : P) → count (same p) ps ≤ 1) → Each (fits opening) ps
       → Has (same_item same) (IsGood step opening n) (fits_item kept fits) (first_items (kept opening) ps n)
@@ -110,6 +106,6 @@ module _ {R P D W : Type 0} (step : W → R → W → Type 0) (kept : W → D) (
     (
       (refl, refl),
       each-append (fits_item kept fits (start opening n)) (map part_item ps) (callers_from 0 n)
-          (parts_fit (start opening n) ps h) (callers_fit opening n 0 n (omega arith)),
+          (fit_parts kept fits (start opening n) ps h) (callers_fit opening n 0 n (omega arith)),
     ),
   )

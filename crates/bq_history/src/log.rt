@@ -54,7 +54,7 @@ impl<R: Drop> Log<R> {
         let place = self.len;
         self.len = place + 1;
         if place % CHUNK == 0 {
-            let slip = begun(room.take(), entry);
+            let slip = begun(room.take_chunk(), entry);
             self.chunks.push(slip);
         } else {
             append(&mut self.chunks, entry);

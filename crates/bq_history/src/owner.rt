@@ -1,9 +1,10 @@
 //! What the holders share.
 ghost use Rattle.std.specs.Prelude.{◌≡◌, ◌++◌, IfOk, []};
 ghost use Rattle.bq_history.specs.Whole.{MayExchange, Has, first_item, others_of};
+ghost use Rattle.bq_history.specs.Tables.{table_of, start_of};
 
 use crate::holder::Holder;
-use crate::law::{Apart, Fact, Holding, Law, Look, Naming, Ruled, Step, Together, Whole};
+use crate::law::{AllItems, Fact, FirstItem, Holding, ItemsJoined, Law, Look, Naming, Ruled, Step};
 use atomic_table::{Seat, Table};
 use std::alloc::{AllocError, Global};
 use std::collections::LinkedList;
@@ -11,17 +12,17 @@ use std::marker::{Brand, Model, PhantomData};
 
 /// A whole that has no name yet. Contracts see it as the table's name and what was fixed when it was made.
 #[derive(Drop)]
-pub struct Unnamed<E, T, K, L: Law<E, T, K>> {
-    table: Table<(), LinkedList<E>, K, Ruled<E, T, K, L>, Global>,
+pub struct Unnamed<E, T, S, L: Law<E, T, S>> {
+    table: Table<(), LinkedList<E>, S, Ruled<E, T, S, L>, Global>,
     seat: Seat<(), LinkedList<E>>,
 }
 
-impl<E, T, K, L: Law<E, T, K>> Model for Unnamed<E, T, K, L> {
+impl<E, T, S, L: Law<E, T, S>> Model for Unnamed<E, T, S, L> {
     ghost use Rattle.std.specs.Prelude.{◌≡◌, []};
     ghost use Rattle.atomic_table.specs.Seated.{TableId};
     ghost use Rattle.bq_history.specs.Tables.{IsOfWords};
 
-    ghost Value = { TableId × K };
+    ghost Value = { TableId × S };
 
     ghost view = { λ u. (u.table.shared.table_id, u.table.shared.key) };
 
@@ -30,36 +31,36 @@ impl<E, T, K, L: Law<E, T, K>> Model for Unnamed<E, T, K, L> {
 
 /// What the holders of one whole share. Contracts see it as what was fixed when it was made.
 #[derive(Drop)]
-pub struct Owner<E, T, K, L: Law<E, T, K>, N: Naming> {
-    table: Table<(), LinkedList<E>, K, Ruled<E, T, K, L>, Global>,
+pub struct Owner<E, T, S, L: Law<E, T, S>, N: Naming> {
+    table: Table<(), LinkedList<E>, S, Ruled<E, T, S, L>, Global>,
     of: PhantomData<N>,
 }
 
-impl<E, T, K, L: Law<E, T, K>, N: Naming> Model for Owner<E, T, K, L, N> {
+impl<E, T, S, L: Law<E, T, S>, N: Naming> Model for Owner<E, T, S, L, N> {
     ghost use Rattle.std.specs.Prelude.{◌≡◌};
     ghost use Rattle.bq_history.specs.Tables.{IsOfWords};
 
-    ghost Value = { K };
+    ghost Value = { S };
 
     ghost view = { λ o. o.table.shared.key };
 
     ghost invariant = { λ o. (o.table.shared.table_id ≡ N.table) × IsOfWords 1 o.table.shared.table_id };
 }
 
-impl<E, T, K, L: Law<E, T, K>> Unnamed<E, T, K, L> {
+impl<E, T, S, L: Law<E, T, S>> Unnamed<E, T, S, L> {
     /// The whole at the start, without a name. It takes the memory for the table that the holders share.
-    pub fn new(alloc: Global, about: &K) -> Result<Unnamed<E, T, K, L>, AllocError>
-        requires { Has L.same (L.good about.now) L.fits (L.first about.now) }
-        ensures { IfOk result (λ u. u.1 ≡ about.now) }
+    pub fn new(alloc: Global, start: &S) -> Result<Unnamed<E, T, S, L>, AllocError>
+        requires { Has L.same (L.good start.now) L.fits (L.first start.now) }
+        ensures { IfOk result (λ u. start_of u ≡ start.now) }
     {
-        let (table, seat) = Table::of_words(alloc, &[0], about)?;
+        let (table, seat) = Table::of_words(alloc, &[0], start)?;
         Ok(Unnamed { table, seat })
     }
 
     /// The whole under its name, with one holder of all items.
-    pub fn named<N: Naming>(self) -> (Owner<E, T, K, L, N>, Holder<E, N>)
-        requires { self.0 ≡ N.table }
-        ensures { (result.0 ≡ self.1) × (result.1 ≡ L.first self.1) }
+    pub fn named<N: Naming>(self) -> (Owner<E, T, S, L, N>, Holder<E, N>)
+        requires { table_of self ≡ N.table }
+        ensures { (result.0 ≡ start_of self) × (result.1 ≡ L.first (start_of self)) }
     {
         let Unnamed { table, seat } = self;
         (
@@ -75,12 +76,12 @@ impl<E, T, K, L: Law<E, T, K>> Unnamed<E, T, K, L> {
     }
 }
 
-impl<E, T, K, L: Law<E, T, K>, N: Naming> Owner<E, T, K, L, N> {
+impl<E, T, S, L: Law<E, T, S>, N: Naming> Owner<E, T, S, L, N> {
     /// Gives all items to a new holder.
-    pub fn take(&self, from: &mut Holder<E, N>) -> Holder<E, N>
+    pub fn take_all(&self, from: &mut Holder<E, N>) -> Holder<E, N>
         ensures { (from.new ≡ []) × (result ≡ from.old) }
     {
-        let seat = self.table.shared.split_seat::<Whole>(&mut from.seat);
+        let seat = self.table.shared.split_seat::<AllItems>(&mut from.seat);
         Holder {
             seat,
             of: PhantomData,
@@ -88,10 +89,10 @@ impl<E, T, K, L: Law<E, T, K>, N: Naming> Owner<E, T, K, L, N> {
     }
 
     /// Gives the first item to a new holder.
-    pub fn part(&self, from: &mut Holder<E, N>) -> Holder<E, N>
+    pub fn take_first(&self, from: &mut Holder<E, N>) -> Holder<E, N>
         ensures { (from.new ≡ others_of from.old) × (result ≡ first_item from.old) }
     {
-        let seat = self.table.shared.split_seat::<Apart>(&mut from.seat);
+        let seat = self.table.shared.split_seat::<FirstItem>(&mut from.seat);
         Holder {
             seat,
             of: PhantomData,
@@ -103,14 +104,16 @@ impl<E, T, K, L: Law<E, T, K>, N: Naming> Owner<E, T, K, L, N> {
         ensures { to.new ≡ to.old ++ other }
     {
         let Holder { seat, of: _ } = other;
-        self.table.shared.join_seat::<Together>(&mut to.seat, seat);
+        self.table
+            .shared
+            .join_seat::<ItemsJoined>(&mut to.seat, seat);
     }
 
     /// Gives all that `from` has to `to`. Afterwards `from` is empty, and may be used again.
     pub fn gather(&self, to: &mut Holder<E, N>, from: &mut Holder<E, N>)
         ensures { (to.new ≡ to.old ++ from.old) × (from.new ≡ []) }
     {
-        let all = self.take(from);
+        let all = self.take_all(from);
         self.join(to, all);
     }
 
@@ -118,7 +121,7 @@ impl<E, T, K, L: Law<E, T, K>, N: Naming> Owner<E, T, K, L, N> {
     pub fn deal(&self, from: &mut Holder<E, N>, to: &mut Holder<E, N>)
         ensures { (from.new ≡ others_of from.old) × (to.new ≡ to.old ++ first_item from.old) }
     {
-        let one = self.part(from);
+        let one = self.take_first(from);
         self.join(to, one);
     }
 

@@ -56,7 +56,7 @@ impl<R: Drop> Room<R> {
     }
 
     /// The spare chunk.
-    pub(crate) fn take(&mut self) -> Slip<Chunk<R>>
+    pub(crate) fn take_chunk(&mut self) -> Slip<Chunk<R>>
         requires { self.old ≡ true }
         ensures { result ≡ [] }
     {

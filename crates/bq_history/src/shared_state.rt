@@ -32,10 +32,10 @@ pub struct SharedState<R, W> {
     pub world: W,
 }
 
-/// What is fixed at the start.
+/// What is fixed at the start: the setup of the world, and the number of callers.
 #[derive(Drop)]
-pub struct FixedAtStart<K> {
-    pub about: K,
+pub struct FixedAtStart<S> {
+    pub setup: S,
     pub callers: u64,
 }
 
@@ -49,14 +49,14 @@ pub trait World {
     type Part;
     /// What the journal keeps of the world.
     type Kept: Drop;
-    /// What is fixed at the start.
-    type Fixed;
+    /// What of the world is fixed at the start.
+    type Setup;
 
     // The world at the start.
-    ghost opening: { Self.Fixed → Self.State };
+    ghost opening: { Self.Setup → Self.State };
 
     // The step from the world before to the world after, with its record.
-    ghost step: { Self.Fixed → Self.State → Self.Record → Self.State → Type 0 };
+    ghost step: { Self.Setup → Self.State → Self.Record → Self.State → Type 0 };
 
     // What the journal keeps of the world.
     ghost kept: { Self.State → Self.Kept };
@@ -68,7 +68,7 @@ pub trait World {
     ghost fits: { Self.State → Self.Part → Type 0 };
 
     // The parts at the start.
-    ghost first: { Self.Fixed → List Self.Part };
+    ghost first: { Self.Setup → List Self.Part };
 }
 
 /// The law of a world with its history.
@@ -76,15 +76,15 @@ pub struct Recorded<M> {
     of: PhantomData<M>,
 }
 
-impl<M: World> Law<ItemOf<M>, SharedState<M::Record, M::State>, FixedAtStart<M::Fixed>>
+impl<M: World> Law<ItemOf<M>, SharedState<M::Record, M::State>, FixedAtStart<M::Setup>>
     for Recorded<M> {
     ghost use Rattle.bq_history.specs.Items.{same_item, fits_item, IsGood, first_items};
 
     ghost same = { same_item M.same };
 
-    ghost good = { λ k t. IsGood (M.step k.about) (M.opening k.about) k.callers t };
+    ghost good = { λ start t. IsGood (M.step start.setup) (M.opening start.setup) start.callers t };
 
     ghost fits = { fits_item M.kept M.fits };
 
-    ghost first = { λ k. first_items (M.kept (M.opening k.about)) (M.first k.about) k.callers };
+    ghost first = { λ start. first_items (M.kept (M.opening start.setup)) (M.first start.setup) start.callers };
 }

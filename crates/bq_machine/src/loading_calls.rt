@@ -1,7 +1,8 @@
 //! A load: an image is verified once, a generation is drawn, and the image's policy is installed at each processor.
 ghost use Rattle.std.specs.Prelude.{◌≡◌, ◌∷◌, ◌++◌, ◌<◌, ◌≤◌, ◌+◌, [], true, None, Ok, IfOk, IfErr, OnErr, All, vec_len, vec_capacity};
 ghost use Rattle.std.specs.Option.{option_map};
-ghost use Rattle.bq_shared.specs.Calls.{account_of};
+ghost use Rattle.bq_history.specs.Callers.{with_receipt, with_receipts};
+ghost use Rattle.bq_shared.specs.Calls.{IsTallied};
 ghost use Rattle.bq_parts.specs.Refusals.{is_for};
 ghost use Rattle.bq_parts.specs.declared.reply.Reply.TheVariants.{Drawn};
 ghost use Rattle.bq_shared.specs.Parts.{reported_calls};
@@ -119,7 +120,7 @@ impl<Q: RunQueue + Drop, K: Clock + Drop, N: Naming + Counting, const P: usize> 
         hook: Hook,
         image: Option<&[u8]>,
     ) -> Result<LoadReceipts, LoadRefused>
-        ensures receipts { IfOk result (λ l. seat.new ≡ (seat.old.0, (seat.old.1 ++ l.draw ∷ []) ++ l.installs.items)) }
+        ensures receipts { IfOk result (λ l. seat.new ≡ with_receipts l.installs.items (with_receipt l.draw seat.old)) }
         ensures load { IfOk result (IsLoad P hook (option_map (λ b. b.now) image.entry)) }
         ensures refused { IfErr result (IsLoadRefused hook (option_map (λ b. b.now) image.entry)) }
         ensures err { OnErr result (seat.new ≡ seat.old) }
@@ -151,9 +152,9 @@ impl<Q: RunQueue + Drop, K: Clock + Drop, N: Naming + Counting, const P: usize> 
         room: &mut Room<Record>,
     ) -> (Receipt<Record>, u64)
         requires ready { room.old ≡ true }
-        requires tally { working.old.tally ≡ account_of reported_calls working.old.caller.1 }
-        ensures caller { working.new.caller ≡ (working.old.caller.0, working.old.caller.1 ++ result.0 ∷ []) }
-        ensures tally { working.new.tally ≡ account_of reported_calls working.new.caller.1 }
+        requires tally { IsTallied reported_calls working.old }
+        ensures caller { working.new.caller ≡ with_receipt result.0 working.old.caller }
+        ensures tally { IsTallied reported_calls working.new }
         ensures event { result.0.entry.event ≡ Event.Draw }
         ensures reply { result.0.entry.reply ≡ Ok (Drawn result.1) }
     {
@@ -177,14 +178,14 @@ impl<Q: RunQueue + Drop, K: Clock + Drop, N: Naming + Counting, const P: usize> 
         mut spares: Vec<PreparedInstall>,
         installs: &mut Vec<Receipt<Record>>,
     )
-        requires tally { working.old.tally ≡ account_of reported_calls working.old.caller.1 }
+        requires tally { IsTallied reported_calls working.old }
         requires hook { is_for loading.hook loading.policy.now ≡ true }
         requires many { vec_len spares ≡ P }
         requires same { All (λ s. s.installed.policy ≡ loading.policy.now) spares.items }
         requires none { installs.old.items ≡ [] }
         requires room { P ≤ vec_capacity installs.old }
-        ensures caller { working.new.caller ≡ (working.old.caller.0, working.old.caller.1 ++ installs.new.items) }
-        ensures tally { working.new.tally ≡ account_of reported_calls working.new.caller.1 }
+        ensures caller { working.new.caller ≡ with_receipts installs.new.items working.old.caller }
+        ensures tally { IsTallied reported_calls working.new }
         ensures installs { AreInstalls 0 P loading.entry.hook loading.entry.generation loading.entry.policy.now installs.new.items }
     {
         'installs: for number in 0..self.cpus.len() {
@@ -213,11 +214,11 @@ impl<Q: RunQueue + Drop, K: Clock + Drop, N: Naming + Counting, const P: usize> 
         generation: u64,
         spare: PreparedInstall,
     ) -> Receipt<Record>
-        requires tally { working.old.tally ≡ account_of reported_calls working.old.caller.1 }
+        requires tally { IsTallied reported_calls working.old }
         requires inside { processor < P }
         requires hook { is_for hook spare.installed.policy ≡ true }
-        ensures caller { working.new.caller ≡ (working.old.caller.0, working.old.caller.1 ++ result ∷ []) }
-        ensures tally { working.new.tally ≡ account_of reported_calls working.new.caller.1 }
+        ensures caller { working.new.caller ≡ with_receipt result working.old.caller }
+        ensures tally { IsTallied reported_calls working.new }
         ensures event { result.entry.event ≡ Event.Install processor hook generation spare.installed.policy }
     {
         let PreparedInstall {

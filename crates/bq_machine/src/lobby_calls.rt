@@ -1,8 +1,9 @@
 //! The calls that need only the lobby: tasks come to the machine, and leave it.
-ghost use Rattle.std.specs.Prelude.{◌≡◌, ◌≤◌, ◌∷◌, ◌++◌, [], None, IfOk, IfErr, OnErr, true};
+ghost use Rattle.std.specs.Prelude.{◌≡◌, ◌≤◌, None, IfOk, IfErr, OnErr, true};
+ghost use Rattle.bq_history.specs.Callers.{with_receipt};
 ghost use Rattle.bq_parts.specs.Refusals.{argument_refusal};
 ghost use Rattle.bq_parts.specs.Moves.{admitted};
-ghost use Rattle.bq_shared.specs.Calls.{account_of};
+ghost use Rattle.bq_shared.specs.Calls.{IsTallied};
 ghost use Rattle.bq_shared.specs.Parts.{reported_calls};
 ghost use Rattle.bq_machine.specs.Calls.{IsCallRefused};
 
@@ -91,7 +92,7 @@ impl<Q: RunQueue + Drop, K: Clock + Drop, N: Naming + Counting, const P: usize> 
         seat: &mut MachineSeat<N>,
         admission: Admission,
     ) -> Result<Receipt<Record>, Refusal>
-        ensures receipt { IfOk result (λ r. seat.new ≡ (seat.old.0, seat.old.1 ++ r ∷ [])) }
+        ensures receipt { IfOk result (λ r. seat.new ≡ with_receipt r seat.old) }
         ensures event { IfOk result (λ r. r.entry.event ≡ Event.Admit admission.task admission.nice admission.mask admission.slice) }
         ensures passed { IfOk result (λ r. argument_refusal P (Event.Admit admission.task admission.nice admission.mask admission.slice) ≡ None) }
         ensures refused { IfErr result (IsCallRefused P (Event.Admit admission.task admission.nice admission.mask admission.slice)) }
@@ -114,9 +115,9 @@ impl<Q: RunQueue + Drop, K: Clock + Drop, N: Naming + Counting, const P: usize> 
         requires passed { argument_refusal P (Event.Admit admission.task admission.nice admission.mask admission.slice) ≡ None }
         requires new { new ≡ admitted P admission.task admission.nice admission.mask admission.slice }
         requires ready { room.old ≡ true }
-        requires tally { working.old.tally ≡ account_of reported_calls working.old.caller.1 }
-        ensures caller { working.new.caller ≡ (working.old.caller.0, working.old.caller.1 ++ result ∷ []) }
-        ensures tally { working.new.tally ≡ account_of reported_calls working.new.caller.1 }
+        requires tally { IsTallied reported_calls working.old }
+        ensures caller { working.new.caller ≡ with_receipt result working.old.caller }
+        ensures tally { IsTallied reported_calls working.new }
         ensures event { result.entry.event ≡ Event.Admit admission.task admission.nice admission.mask admission.slice }
     {
         let mut guard = self.lobby.lock(rt);
@@ -143,7 +144,7 @@ impl<Q: RunQueue + Drop, K: Clock + Drop, N: Naming + Counting, const P: usize> 
         seat: &mut MachineSeat<N>,
         task: u16,
     ) -> Result<Receipt<Record>, Refusal>
-        ensures receipt { IfOk result (λ r. seat.new ≡ (seat.old.0, seat.old.1 ++ r ∷ [])) }
+        ensures receipt { IfOk result (λ r. seat.new ≡ with_receipt r seat.old) }
         ensures event { IfOk result (λ r. r.entry.event ≡ Event.Retire task) }
         ensures passed { IfOk result (λ r. argument_refusal P (Event.Retire task) ≡ None) }
         ensures refused { IfErr result (IsCallRefused P (Event.Retire task)) }
@@ -167,9 +168,9 @@ impl<Q: RunQueue + Drop, K: Clock + Drop, N: Naming + Counting, const P: usize> 
     ) -> Receipt<Record>
         requires passed { argument_refusal P (Event.Retire task) ≡ None }
         requires ready { room.old ≡ true }
-        requires tally { working.old.tally ≡ account_of reported_calls working.old.caller.1 }
-        ensures caller { working.new.caller ≡ (working.old.caller.0, working.old.caller.1 ++ result ∷ []) }
-        ensures tally { working.new.tally ≡ account_of reported_calls working.new.caller.1 }
+        requires tally { IsTallied reported_calls working.old }
+        ensures caller { working.new.caller ≡ with_receipt result working.old.caller }
+        ensures tally { IsTallied reported_calls working.new }
         ensures event { result.entry.event ≡ Event.Retire task }
     {
         let mut guard = self.lobby.lock(rt);

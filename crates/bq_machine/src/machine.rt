@@ -20,7 +20,7 @@ pub(crate) type LockedProcessor<'a, Q, N> = MutexGuard<'a, UnderLock<NumberedCpu
 ///
 /// To open one, call `bq_recording::prepare::<Q>(alloc, P, seats)`, and pass what it answers to a function over `N` at
 /// `std::marker::Brand`. The contract of that function says that these two are the ones that `N` names
-/// (`prepared.0 ≡ N.table`, `unnamed.0 ≡ N.counters`).
+/// (`table_of prepared ≡ N.table`, `table_of unnamed ≡ N.counters`).
 /// The example is the body of such a function, with one processor under CFS, one seat, and a clock `Steady`.
 ///
 /// # Example
@@ -58,7 +58,7 @@ pub struct Machine<Q: RunQueue + Drop, K: Clock + Drop, N: Naming + Counting, co
     pub(crate) lobby: Mutex<UnderLock<OneLobby, N>>,
     pub(crate) room: Mutex<ClosingRoom<Q, P>>,
     pub(crate) seats: u64,
-    ghost about: { recorder.history.about ≡ P },
+    ghost setup: { recorder.history.setup ≡ P },
     ghost counted: { vec_len cpus ≡ P },
     ghost one_each: { vec_len inboxes ≡ P },
     ghost few: { P ≤ PROCESSORS },

@@ -1,6 +1,8 @@
 //! A machine at the start.
 ghost use Rattle.std.specs.Prelude.{◌≡◌, ◌≤◌, [], All, IfOk, length};
+ghost use Rattle.bq_history.specs.Tables.{table_of};
 ghost use Rattle.bq_shared.specs.Calls.{fresh_callers};
+ghost use Rattle.bq_shared.specs.Prepared.{ArePrepared};
 
 use crate::clock::Clock;
 use crate::machine::Machine;
@@ -26,11 +28,11 @@ impl<Q: RunQueue + Drop, K: Clock + Drop, N: Naming + Counting, const P: usize> 
         seat_count: u64,
     ) -> Result<(Machine<Q, K, N, P>, Vec<MachineSeat<N>>), AllocError>
         requires few { P ≤ PROCESSORS }
-        requires name { prepared.0 ≡ N.table }
-        requires counters { unnamed.0 ≡ N.counters }
-        requires counts { (prepared.1.about ≡ P) × (prepared.1.callers ≡ seat_count) × (unnamed.1 ≡ seat_count) }
+        requires name { table_of prepared ≡ N.table }
+        requires counters { table_of unnamed ≡ N.counters }
+        requires counts { ArePrepared P seat_count prepared unnamed }
         ensures seats { IfOk result (λ r. r.1.items ≡ fresh_callers 0 seat_count) }
-        ensures about { IfOk result (λ r. (r.0.recorder.history.about ≡ P) × (r.0.recorder.history.callers ≡ seat_count)) }
+        ensures history { IfOk result (λ r. (r.0.recorder.history.setup ≡ P) × (r.0.recorder.history.callers ≡ seat_count)) }
     {
         let queues = no_tasks(alloc, P)?;
         Machine::with_queues(alloc, clock, queues, prepared, unnamed, seat_count)
@@ -47,13 +49,13 @@ impl<Q: RunQueue + Drop, K: Clock + Drop, N: Naming + Counting, const P: usize> 
         seat_count: u64,
     ) -> Result<(Machine<Q, K, N, P>, Vec<MachineSeat<N>>), AllocError>
         requires few { P ≤ PROCESSORS }
-        requires name { prepared.0 ≡ N.table }
-        requires counters { unnamed.0 ≡ N.counters }
-        requires counts { (prepared.1.about ≡ P) × (prepared.1.callers ≡ seat_count) × (unnamed.1 ≡ seat_count) }
+        requires name { table_of prepared ≡ N.table }
+        requires counters { table_of unnamed ≡ N.counters }
+        requires counts { ArePrepared P seat_count prepared unnamed }
         requires many { length queues.items ≡ P }
         requires empty { All (λ q. (Q.members q ≡ []) × (Q.last_mark q ≡ FIRST_MARK)) queues.items }
         ensures seats { IfOk result (λ r. r.1.items ≡ fresh_callers 0 seat_count) }
-        ensures about { IfOk result (λ r. (r.0.recorder.history.about ≡ P) × (r.0.recorder.history.callers ≡ seat_count)) }
+        ensures history { IfOk result (λ r. (r.0.recorder.history.setup ≡ P) × (r.0.recorder.history.callers ≡ seat_count)) }
     {
         let (opening, seats) = Opening::over(alloc, queues, prepared, unnamed, seat_count)?;
         let Opening {

@@ -1,8 +1,9 @@
 //! A pull: a processor takes a task from the queue of another. Both are locked, by rising number.
-ghost use Rattle.std.specs.Prelude.{◌≡◌, ◌≢◌, ◌<◌, ◌∷◌, ◌++◌, ℕ, [], None, Some, IfOk, IfErr, OnOk, OnErr, is_some, true};
+ghost use Rattle.std.specs.Prelude.{◌≡◌, ◌≢◌, ◌<◌, ℕ, None, Some, IfOk, IfErr, OnOk, OnErr, is_some, true};
 ghost use Rattle.std.specs.Sync.Mutex.{mutex_guard_value};
+ghost use Rattle.bq_history.specs.Callers.{with_receipt};
 ghost use Rattle.bq_parts.specs.Refusals.{argument_refusal};
-ghost use Rattle.bq_shared.specs.Calls.{account_of};
+ghost use Rattle.bq_shared.specs.Calls.{IsTallied};
 ghost use Rattle.bq_shared.specs.Parts.{reported_calls};
 ghost use Rattle.bq_machine.specs.Calls.{IsCallRefused};
 
@@ -35,7 +36,7 @@ impl<Q: RunQueue + Drop, K: Clock + Drop, N: Naming + Counting, const P: usize> 
         processor: u8,
         from: u8,
     ) -> Result<Receipt<Record>, Refusal>
-        ensures receipt { IfOk result (λ r. seat.new ≡ (seat.old.0, seat.old.1 ++ r ∷ [])) }
+        ensures receipt { IfOk result (λ r. seat.new ≡ with_receipt r seat.old) }
         ensures event { IfOk result (λ r. (now : ℕ) × K.gives processor now × (r.entry.event ≡ Event.Pull processor from now)) }
         ensures passed { IfOk result (λ _. argument_refusal P (Event.Pull processor from 0) ≡ None) }
         ensures refused { IfErr result (IsCallRefused P (Event.Pull processor from 0)) }
@@ -67,9 +68,9 @@ impl<Q: RunQueue + Drop, K: Clock + Drop, N: Naming + Counting, const P: usize> 
         requires apart { processor ≢ from }
         requires ready { room.old ≡ true }
         requires calls { is_some calls.old ≡ true }
-        requires tally { working.old.tally ≡ account_of reported_calls working.old.caller.1 }
-        ensures caller { working.new.caller ≡ (working.old.caller.0, working.old.caller.1 ++ result ∷ []) }
-        ensures tally { working.new.tally ≡ account_of reported_calls working.new.caller.1 }
+        requires tally { IsTallied reported_calls working.old }
+        ensures caller { working.new.caller ≡ with_receipt result working.old.caller }
+        ensures tally { IsTallied reported_calls working.new }
         ensures event { (now : ℕ) × K.gives processor now × (result.entry.event ≡ Event.Pull processor from now) }
     {
         // The clock is read before any lock, since both locks may be waited for. A reading below the processor's last counts

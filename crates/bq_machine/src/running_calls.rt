@@ -1,6 +1,7 @@
 //! The calls at one processor: its clock ticks, the tasks of its inbox enter its queue, and its running task goes to sleep.
-ghost use Rattle.std.specs.Prelude.{◌≡◌, ◌∷◌, ◌++◌, ◌<◌, ℕ, [], IfOk, IfErr, OnErr, is_some, true};
-ghost use Rattle.bq_shared.specs.Calls.{account_of};
+ghost use Rattle.std.specs.Prelude.{◌≡◌, ◌<◌, ℕ, IfOk, IfErr, OnErr, is_some, true};
+ghost use Rattle.bq_history.specs.Callers.{with_receipt};
+ghost use Rattle.bq_shared.specs.Calls.{IsTallied};
 ghost use Rattle.bq_shared.specs.Parts.{reported_calls};
 ghost use Rattle.bq_machine.specs.Calls.{IsCallRefused};
 
@@ -32,7 +33,7 @@ impl<Q: RunQueue + Drop, K: Clock + Drop, N: Naming + Counting, const P: usize> 
         seat: &mut MachineSeat<N>,
         processor: u8,
     ) -> Result<Receipt<Record>, Refusal>
-        ensures receipt { IfOk result (λ r. seat.new ≡ (seat.old.0, seat.old.1 ++ r ∷ [])) }
+        ensures receipt { IfOk result (λ r. seat.new ≡ with_receipt r seat.old) }
         ensures event { IfOk result (λ r. (now : ℕ) × K.gives processor now × (r.entry.event ≡ Event.Tick processor now)) }
         ensures passed { IfOk result (λ _. processor < P) }
         ensures refused { IfErr result (IsCallRefused P (Event.Tick processor 0)) }
@@ -66,9 +67,9 @@ impl<Q: RunQueue + Drop, K: Clock + Drop, N: Naming + Counting, const P: usize> 
         requires inside { processor < P }
         requires ready { room.old ≡ true }
         requires calls { is_some calls.old ≡ true }
-        requires tally { working.old.tally ≡ account_of reported_calls working.old.caller.1 }
-        ensures caller { working.new.caller ≡ (working.old.caller.0, working.old.caller.1 ++ result ∷ []) }
-        ensures tally { working.new.tally ≡ account_of reported_calls working.new.caller.1 }
+        requires tally { IsTallied reported_calls working.old }
+        ensures caller { working.new.caller ≡ with_receipt result working.old.caller }
+        ensures tally { IsTallied reported_calls working.new }
         ensures event { (now : ℕ) × K.gives processor now × (result.entry.event ≡ Event.Tick processor now) }
     {
         let mut guard = self.lock_processor(rt, processor);
@@ -98,7 +99,7 @@ impl<Q: RunQueue + Drop, K: Clock + Drop, N: Naming + Counting, const P: usize> 
         seat: &mut MachineSeat<N>,
         processor: u8,
     ) -> Result<Receipt<Record>, Refusal>
-        ensures receipt { IfOk result (λ r. seat.new ≡ (seat.old.0, seat.old.1 ++ r ∷ [])) }
+        ensures receipt { IfOk result (λ r. seat.new ≡ with_receipt r seat.old) }
         ensures event { IfOk result (λ r. (now : ℕ) × K.gives processor now × (r.entry.event ≡ Event.Drain processor now)) }
         ensures passed { IfOk result (λ _. processor < P) }
         ensures refused { IfErr result (IsCallRefused P (Event.Drain processor 0)) }
@@ -131,9 +132,9 @@ impl<Q: RunQueue + Drop, K: Clock + Drop, N: Naming + Counting, const P: usize> 
         requires inside { processor < P }
         requires ready { room.old ≡ true }
         requires calls { is_some calls.old ≡ true }
-        requires tally { working.old.tally ≡ account_of reported_calls working.old.caller.1 }
-        ensures caller { working.new.caller ≡ (working.old.caller.0, working.old.caller.1 ++ result ∷ []) }
-        ensures tally { working.new.tally ≡ account_of reported_calls working.new.caller.1 }
+        requires tally { IsTallied reported_calls working.old }
+        ensures caller { working.new.caller ≡ with_receipt result working.old.caller }
+        ensures tally { IsTallied reported_calls working.new }
         ensures event { (now : ℕ) × K.gives processor now × (result.entry.event ≡ Event.Drain processor now) }
     {
         let mut guard = self.lock_processor(rt, processor);
@@ -176,7 +177,7 @@ impl<Q: RunQueue + Drop, K: Clock + Drop, N: Naming + Counting, const P: usize> 
         seat: &mut MachineSeat<N>,
         processor: u8,
     ) -> Result<Receipt<Record>, Refusal>
-        ensures receipt { IfOk result (λ r. seat.new ≡ (seat.old.0, seat.old.1 ++ r ∷ [])) }
+        ensures receipt { IfOk result (λ r. seat.new ≡ with_receipt r seat.old) }
         ensures event { IfOk result (λ r. (now : ℕ) × K.gives processor now × (r.entry.event ≡ Event.Block processor now)) }
         ensures passed { IfOk result (λ _. processor < P) }
         ensures refused { IfErr result (IsCallRefused P (Event.Block processor 0)) }
@@ -197,9 +198,9 @@ impl<Q: RunQueue + Drop, K: Clock + Drop, N: Naming + Counting, const P: usize> 
     ) -> Receipt<Record>
         requires inside { processor < P }
         requires ready { room.old ≡ true }
-        requires tally { working.old.tally ≡ account_of reported_calls working.old.caller.1 }
-        ensures caller { working.new.caller ≡ (working.old.caller.0, working.old.caller.1 ++ result ∷ []) }
-        ensures tally { working.new.tally ≡ account_of reported_calls working.new.caller.1 }
+        requires tally { IsTallied reported_calls working.old }
+        ensures caller { working.new.caller ≡ with_receipt result working.old.caller }
+        ensures tally { IsTallied reported_calls working.new }
         ensures event { (now : ℕ) × K.gives processor now × (result.entry.event ≡ Event.Block processor now) }
     {
         let mut guard = self.lock_processor(rt, processor);

@@ -1,9 +1,10 @@
 //! A wake: a task of the lobby comes into a processor's hand, and is placed. The processor's lock is held throughout.
-ghost use Rattle.std.specs.Prelude.{◌≡◌, ◌∷◌, ◌++◌, ◌<◌, ◌≤◌, ◌⊎◌, [], None, Some, IfOk, IfErr, IfSome, OnOk, OnErr, is_some, true};
+ghost use Rattle.std.specs.Prelude.{◌≡◌, ◌∷◌, ◌<◌, ◌≤◌, ◌⊎◌, [], None, Some, IfOk, IfErr, IfSome, OnOk, OnErr, is_some, true};
 ghost use Rattle.std.specs.Option.{option_to_list, option_map};
+ghost use Rattle.bq_history.specs.Callers.{receipts_of, with_receipt, with_receipts};
 ghost use Rattle.bq_history.specs.Items.{part_item};
 ghost use Rattle.bq_hooks.specs.OwnPlace.{HasPlace};
-ghost use Rattle.bq_shared.specs.Calls.{account_of, ahead};
+ghost use Rattle.bq_shared.specs.Calls.{ahead, IsTallied};
 ghost use Rattle.bq_parts.specs.Choices.{by_programs};
 ghost use Rattle.bq_parts.specs.Refusals.{argument_refusal};
 ghost use Rattle.bq_parts.specs.Shares.{Places};
@@ -76,7 +77,7 @@ impl<Q: RunQueue + Drop, K: Clock + Drop, N: Naming + Counting, const P: usize> 
         processor: u8,
         task: u16,
     ) -> Result<WakeReceipts, Refusal>
-        ensures receipts { IfOk result (λ w. seat.new ≡ (seat.old.0, (seat.old.1 ++ w.begin ∷ []) ++ option_to_list w.end)) }
+        ensures receipts { IfOk result (λ w. seat.new ≡ with_receipts (option_to_list w.end) (with_receipt w.begin seat.old)) }
         ensures wake { IfOk result (IsWake (K.gives processor) processor task) }
         ensures passed { IfOk result (λ _. argument_refusal P (Event.BeginWake processor task) ≡ None) }
         ensures refused { IfErr result (IsCallRefused P (Event.BeginWake processor task)) }
@@ -116,9 +117,9 @@ impl<Q: RunQueue + Drop, K: Clock + Drop, N: Naming + Counting, const P: usize> 
         requires inside { (processor < P) × (task < TASKS) }
         requires ready { (begin_rooms.record.now ≡ true) × (end_rooms.record.now ≡ true) }
         requires calls { is_some end_rooms.calls.now ≡ true }
-        requires tally { working.old.tally ≡ account_of reported_calls working.old.caller.1 }
-        ensures caller { working.new.caller ≡ (working.old.caller.0, (working.old.caller.1 ++ result.begin ∷ []) ++ option_to_list result.end) }
-        ensures tally { working.new.tally ≡ account_of reported_calls working.new.caller.1 }
+        requires tally { IsTallied reported_calls working.old }
+        ensures caller { working.new.caller ≡ with_receipts (option_to_list result.end) (with_receipt result.begin working.old.caller) }
+        ensures tally { IsTallied reported_calls working.new }
         ensures wake { IsWake (K.gives processor) processor task result }
     {
         let mut guard = self.lock_processor(rt, processor);
@@ -146,11 +147,11 @@ impl<Q: RunQueue + Drop, K: Clock + Drop, N: Naming + Counting, const P: usize> 
     ) -> Receipt<Record>
         requires below { task < TASKS }
         requires ready { rooms.record.now ≡ true }
-        requires tally { working.old.tally ≡ account_of reported_calls working.old.caller.1 }
+        requires tally { IsTallied reported_calls working.old }
         requires held { cpu.old.holder ≡ part_item (cpu_part cpu.old.content.number cpu.old.content.state) ∷ [] }
         requires rests { cpu.old.content.state.hand ≡ None }
-        ensures caller { working.new.caller ≡ (working.old.caller.0, working.old.caller.1 ++ result ∷ []) }
-        ensures tally { working.new.tally ≡ account_of reported_calls working.new.caller.1 }
+        ensures caller { working.new.caller ≡ with_receipt result working.old.caller }
+        ensures tally { IsTallied reported_calls working.new }
         ensures event { result.entry.event ≡ Event.BeginWake cpu.old.content.number task }
         ensures held { cpu.new.holder ≡ part_item (cpu_part cpu.new.content.number cpu.new.content.state) ∷ [] }
         ensures number { cpu.new.content.number ≡ cpu.old.content.number }
@@ -189,11 +190,11 @@ impl<Q: RunQueue + Drop, K: Clock + Drop, N: Naming + Counting, const P: usize> 
     ) -> Receipt<Record>
         requires calls { is_some rooms.calls.now ≡ true }
         requires ready { rooms.record.now ≡ true }
-        requires tally { working.old.tally ≡ account_of reported_calls working.old.caller.1 }
+        requires tally { IsTallied reported_calls working.old }
         requires held { cpu.old.holder ≡ part_item (cpu_part cpu.old.content.number cpu.old.content.state) ∷ [] }
         requires hand { option_map (λ c. c.task.id) cpu.old.content.state.hand ≡ Some task }
-        ensures caller { working.new.caller ≡ (working.old.caller.0, working.old.caller.1 ++ result ∷ []) }
-        ensures tally { working.new.tally ≡ account_of reported_calls working.new.caller.1 }
+        ensures caller { working.new.caller ≡ with_receipt result working.old.caller }
+        ensures tally { IsTallied reported_calls working.new }
         ensures event { result.entry.event ≡ Event.EndWake cpu.old.content.number now }
         ensures placed { WasPlaced task result.entry.reply }
         ensures held { cpu.new.holder ≡ part_item (cpu_part cpu.new.content.number cpu.new.content.state) ∷ [] }
@@ -237,12 +238,12 @@ impl<Q: RunQueue + Drop, K: Clock + Drop, N: Naming + Counting, const P: usize> 
         requires few { P ≤ PROCESSORS }
         requires hand { is_some content.old.state.hand ≡ true }
         requires usable { IfSome content.old.state.hand (λ c. HasPlace P c.task) }
-        requires tally { working.old.tally ≡ account_of reported_calls working.old.caller.1 }
+        requires tally { IsTallied reported_calls working.old }
         ensures number { content.new.number ≡ content.old.number }
         ensures share { Places (by_programs Q.R.discipline) P content.old.number now content.old.state content.new.scratch (Some result) content.new.state }
         ensures below { result.to < P }
         ensures caller { working.new.caller ≡ working.old.caller }
-        ensures tally { working.new.tally ≡ ahead reported_calls working.new.caller.1 content.new.scratch }
+        ensures tally { working.new.tally ≡ ahead reported_calls (receipts_of working.new.caller) content.new.scratch }
     {
         content.scratch.clear();
         let mut counter_board = working.open_board(counters);

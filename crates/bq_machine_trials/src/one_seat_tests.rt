@@ -1,6 +1,8 @@
 //! The machine by one thread: what is answered on an opening machine, at which places, and how long the history is. The values
 //! follow from the rules.
 ghost use Rattle.std.specs.Prelude.{◌≡◌, ◌≤◌};
+ghost use Rattle.bq_history.specs.Tables.{table_of};
+ghost use Rattle.bq_shared.specs.Prepared.{ArePrepared};
 
 use crate::admit;
 use crate::asking::{Request, ask};
@@ -245,9 +247,9 @@ fn events<N: Naming + Counting, R: Abort + Wait, const P: usize>(
     all: &[Asked],
 ) -> u64
     requires few { P ≤ PROCESSORS }
-    requires name { prepared.0 ≡ N.table }
-    requires counters { unnamed.0 ≡ N.counters }
-    requires counts { (prepared.1.about ≡ P) × (prepared.1.callers ≡ 1) × (unnamed.1 ≡ 1) }
+    requires name { table_of prepared ≡ N.table }
+    requires counters { table_of unnamed ≡ N.counters }
+    requires counts { ArePrepared P 1 prepared unnamed }
 {
     let (machine, mut seats) = Single::<N, P>::new(alloc, Steady, prepared, unnamed, 1).expect(
         rt, "memory",
@@ -270,9 +272,9 @@ fn events_by<N: Naming + Counting, R: Abort + Wait>(
     processors: u64,
     all: &[Asked],
 ) -> u64
-    requires name { prepared.0 ≡ N.table }
-    requires counters { unnamed.0 ≡ N.counters }
-    requires counts { (prepared.1.about ≡ processors) × (prepared.1.callers ≡ 1) × (unnamed.1 ≡ 1) }
+    requires name { table_of prepared ≡ N.table }
+    requires counters { table_of unnamed ≡ N.counters }
+    requires counts { ArePrepared processors 1 prepared unnamed }
 {
     if processors == 2 {
         return events::<N, R, 2>(rt, alloc, prepared, unnamed, all);

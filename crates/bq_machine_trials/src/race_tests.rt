@@ -1,5 +1,7 @@
 //! Long races of drawn calls by eight threads, whose histories a core then goes through again.
 ghost use Rattle.std.specs.Prelude.{◌≡◌};
+ghost use Rattle.bq_history.specs.Tables.{table_of};
+ghost use Rattle.bq_shared.specs.Prepared.{ArePrepared};
 
 use crate::asserting::is_true;
 use crate::drawn::{RaceTrack, race, racers};
@@ -47,9 +49,9 @@ fn race_under<
 >(rt: &T, alloc: Global, prepared: Prepared<Q>, unnamed: UnnamedCounters) -> Closed<Q, 64>
 where
     Q::R: Send,
-    requires name { prepared.0 ≡ N.table }
-    requires counters { unnamed.0 ≡ N.counters }
-    requires counts { (prepared.1.about ≡ 64) × (prepared.1.callers ≡ THREADS) × (unnamed.1 ≡ THREADS) }
+    requires name { table_of prepared ≡ N.table }
+    requires counters { table_of unnamed ≡ N.counters }
+    requires counts { ArePrepared 64 THREADS prepared unnamed }
 {
     let clock = Metronome::new(alloc, 64).expect(rt, "memory");
     let (machine, seats) = RaceTrack::<Q, N>::new(alloc, clock, prepared, unnamed, THREADS).expect(

@@ -1,5 +1,7 @@
 //! Scripts, and what comes of them.
 ghost use Rattle.std.specs.Prelude.{◌≡◌, [], All, IfOk, length, vec_len};
+ghost use Rattle.bq_history.specs.Tables.{table_of};
+ghost use Rattle.bq_shared.specs.Prepared.{ArePrepared};
 
 use crate::counting_clock::CountingClock;
 use crate::gate::{Gate, Point};
@@ -191,9 +193,9 @@ fn play_all<N: Naming + Counting + Send + Sync, R: Abort + Threads + Wait + Sync
     script: &Script<'_>,
     count: u64,
 ) -> AllPlayed
-    requires name { prepared.0 ≡ N.table }
-    requires counters { unnamed.0 ≡ N.counters }
-    requires counts { (prepared.1.about ≡ 4) × (prepared.1.callers ≡ count) × (unnamed.1 ≡ count) }
+    requires name { table_of prepared ≡ N.table }
+    requires counters { table_of unnamed ≡ N.counters }
+    requires counts { ArePrepared 4 count prepared unnamed }
     requires many { length parts.queues.items ≡ 4 }
     requires empty { All (λ q. (q.queue.members ≡ []) × (q.queue.mark ≡ FIRST_MARK)) parts.queues.items }
 {

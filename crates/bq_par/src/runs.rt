@@ -2,6 +2,9 @@
 ghost use Rattle.std.specs.Prelude.{◌≡◌, ◌<◌, ◌≤◌, [], IfOk, vec_len};
 ghost use Rattle.std.specs.List.{All};
 ghost use Rattle.bq_words.specs.Sizes.{processors_in};
+ghost use Rattle.bq_history.specs.Callers.{number_of, receipts_of};
+ghost use Rattle.bq_history.specs.Tables.{table_of};
+ghost use Rattle.bq_shared.specs.Prepared.{ArePrepared};
 ghost use Rattle.bq_par.specs.Shifts.{IsShift};
 ghost use Rattle.bq_par.specs.Summaries.{IsHistorySummary};
 
@@ -55,9 +58,9 @@ fn run_sized<
 ) -> Result<HistorySummary, AllocError>
 where
     Q::R: Send,
-    requires name { prepared.0 ≡ N.table }
-    requires counters { unnamed.0 ≡ N.counters }
-    requires counts { (prepared.1.about ≡ processors_in size) × (prepared.1.callers ≡ processors_in size) × (unnamed.1 ≡ processors_in size) }
+    requires name { table_of prepared ≡ N.table }
+    requires counters { table_of unnamed ≡ N.counters }
+    requires counts { ArePrepared (processors_in size) (processors_in size) prepared unnamed }
     ensures { IfOk result (IsHistorySummary Q.R.discipline (processors_in size) ticks) }
 {
     match size {
@@ -91,9 +94,9 @@ fn run_machine<
 where
     Q::R: Send,
     requires few { P ≤ PROCESSORS }
-    requires name { prepared.0 ≡ N.table }
-    requires counters { unnamed.0 ≡ N.counters }
-    requires counts { (prepared.1.about ≡ P) × (prepared.1.callers ≡ P) × (unnamed.1 ≡ P) }
+    requires name { table_of prepared ≡ N.table }
+    requires counters { table_of unnamed ≡ N.counters }
+    requires counts { ArePrepared P P prepared unnamed }
     ensures { IfOk result (IsHistorySummary Q.R.discipline P ticks) }
 {
     let clock = Metronome::new(alloc, P as u8)?;
@@ -119,17 +122,17 @@ fn drive_all<
 ) -> Result<Vec<Result<ReturnedSeat<N>, Refusal>>, AllocError>
 where
     Q::R: Send,
-    requires fresh { All (λ s. (s.0 < 256) × (s.1 ≡ [])) seats.items }
+    requires fresh { All (λ s. (number_of s < 256) × (receipts_of s ≡ [])) seats.items }
     ensures many { IfOk result (λ done. vec_len done ≡ vec_len seats) }
-    ensures shifts { IfOk result (λ done. All (λ r. IfOk r (λ d. IsShift d.seat.0 ticks d.seat.1)) done.items) }
+    ensures shifts { IfOk result (λ done. All (λ r. IfOk r (λ d. IsShift (number_of d.seat) ticks (receipts_of d.seat))) done.items) }
 {
     map_vec(
         rt,
         seats,
         &|seat: MachineSeat<N>| -> Result<ReturnedSeat<N>, Refusal>
-            requires number { seat.0 < 256 }
-            requires fresh { seat.1 ≡ [] }
-            ensures { IfOk result (λ d. IsShift d.seat.0 ticks d.seat.1) }
+            requires number { number_of seat < 256 }
+            requires fresh { receipts_of seat ≡ [] }
+            ensures { IfOk result (λ d. IsShift (number_of d.seat) ticks (receipts_of d.seat)) }
         { drive(rt, alloc, machine, seat, ticks) },
     )
 }

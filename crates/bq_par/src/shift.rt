@@ -1,6 +1,7 @@
 //! What one thread does: it admits the task of its processor, wakes it there, and lets the processor tick.
 ghost use Rattle.std.specs.Prelude.{◌≡◌, ◌<◌, ◌++◌, ◌∷◌, [], IfOk, OnOk};
 ghost use Rattle.std.specs.Option.{option_to_list};
+ghost use Rattle.bq_history.specs.Callers.{number_of, receipts_of};
 ghost use Rattle.bq_par.specs.Shifts.{IsShift, IsShiftStart, TicksMore};
 
 use bq_disc::RunQueue;
@@ -18,7 +19,7 @@ use std::sync::Wait;
 pub struct ReturnedSeat<N: Naming + Counting> {
     pub seat: MachineSeat<N>,
     pub receipts: Vec<Receipt<Record>>,
-    ghost held: { seat.1 ≡ receipts.items },
+    ghost held: { receipts_of seat ≡ receipts.items },
 }
 
 /// What a thread does once its task runs: it lets a processor tick a given number of times.
@@ -37,10 +38,10 @@ pub fn drive<Q: RunQueue + Drop, K: Clock + Drop, N: Naming + Counting, R: Wait,
     seat: MachineSeat<N>,
     ticks: u32,
 ) -> Result<ReturnedSeat<N>, Refusal>
-    requires number { seat.0 < 256 }
-    requires fresh { seat.1 ≡ [] }
-    ensures own { IfOk result (λ d. d.seat.0 ≡ seat.0) }
-    ensures shift { IfOk result (λ d. IsShift d.seat.0 ticks d.seat.1) }
+    requires number { number_of seat < 256 }
+    requires fresh { receipts_of seat ≡ [] }
+    ensures own { IfOk result (λ d. number_of d.seat ≡ number_of seat) }
+    ensures shift { IfOk result (λ d. IsShift (number_of d.seat) ticks (receipts_of d.seat)) }
 {
     let mut seat = seat;
     let processor = seat.number() as u8;
@@ -64,8 +65,8 @@ fn tick_all<Q: RunQueue + Drop, K: Clock + Drop, N: Naming + Counting, R: Wait, 
     receipts: &mut Vec<Receipt<Record>>,
     duty: &Duty,
 ) -> Result<(), Refusal>
-    requires { seat.old.1 ≡ receipts.old.items }
-    ensures held { OnOk result (seat.new ≡ (seat.old.0, receipts.new.items)) }
+    requires { receipts_of seat.old ≡ receipts.old.items }
+    ensures held { OnOk result (seat.new ≡ (number_of seat.old, receipts.new.items)) }
     ensures ticks { OnOk result (TicksMore duty.now.processor duty.now.ticks receipts.old.items receipts.new.items) }
 {
     let Duty { processor, ticks } = *duty;
@@ -85,9 +86,9 @@ fn start<Q: RunQueue + Drop, K: Clock + Drop, N: Naming + Counting, R: Wait, con
     receipts: &mut Vec<Receipt<Record>>,
     processor: u8,
 ) -> Result<(), Refusal>
-    requires fresh { seat.old.1 ≡ [] }
+    requires fresh { receipts_of seat.old ≡ [] }
     requires none { receipts.old.items ≡ [] }
-    ensures held { OnOk result (seat.new ≡ (seat.old.0, receipts.new.items)) }
+    ensures held { OnOk result (seat.new ≡ (number_of seat.old, receipts.new.items)) }
     ensures start { OnOk result (IsShiftStart processor receipts.new.items) }
 {
     let task = u16::from(processor);

@@ -3,6 +3,7 @@ ghost use Rattle.std.specs.Prelude.{◌≡◌, ◌↔◌, ◌<◌, ◌≤◌, �
 ghost use Rattle.std.specs.List.{All, sum_by};
 ghost use Rattle.std.specs.Option.{option_map};
 ghost use Rattle.bq_history.specs.Whole.{Each};
+ghost use Rattle.bq_history.specs.Callers.{number_of, receipts_of};
 ghost use Rattle.bq_history.specs.History.{IsConfirmed, IsRecorded};
 ghost use Rattle.bq_par.specs.Shifts.{IsShift};
 ghost use Rattle.bq_par.specs.Summaries.{IsHistorySummary, summary_line};
@@ -47,7 +48,7 @@ impl HistorySummary {
 struct ReturnedSeats<N: Naming + Counting> {
     seats: Vec<MachineSeat<N>>,
     lists: Vec<Vec<Receipt<Record>>>,
-    ghost same: { map (λ l. l.items) lists.items ≡ map (λ s. s.1) seats.items },
+    ghost same: { map (λ l. l.items) lists.items ≡ map (λ s. receipts_of s) seats.items },
 }
 
 /// Ends a machine and makes its summary. Its seats must have come back, each with the receipts of its processor's shift. The
@@ -60,7 +61,7 @@ pub fn finish<Q: RunQueue + Drop, K: Clock + Drop, N: Naming + Counting, const P
 ) -> Result<HistorySummary, AllocError>
     requires callers { machine.recorder.history.callers ≡ P }
     requires many { vec_len done ≡ P }
-    requires shifts { All (λ r. IfOk r (λ d. IsShift d.seat.0 ticks d.seat.1)) done.items }
+    requires shifts { All (λ r. IfOk r (λ d. IsShift (number_of d.seat) ticks (receipts_of d.seat))) done.items }
     ensures { IfOk result (IsHistorySummary Q.R.discipline P ticks) }
 {
     let ReturnedSeats { seats, lists } = returned(alloc, done, ticks)?;
@@ -101,9 +102,9 @@ fn returned<N: Naming + Counting>(
     done: Vec<Result<ReturnedSeat<N>, Refusal>>,
     ticks: u32,
 ) -> Result<ReturnedSeats<N>, AllocError>
-    requires { All (λ r. IfOk r (λ d. IsShift d.seat.0 ticks d.seat.1)) done.items }
+    requires { All (λ r. IfOk r (λ d. IsShift (number_of d.seat) ticks (receipts_of d.seat))) done.items }
     ensures many { IfOk result (λ r. length r.seats.items ≡ vec_len done) }
-    ensures shifts { IfOk result (λ r. Each (λ s. IsShift s.0 ticks s.1) r.seats.items) }
+    ensures shifts { IfOk result (λ r. Each (λ s. IsShift (number_of s) ticks (receipts_of s)) r.seats.items) }
 {
     let mut done = done;
     let mut seats = Vec::with_capacity(alloc, done.len())?;

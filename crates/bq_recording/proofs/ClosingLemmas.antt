@@ -130,12 +130,12 @@ pub once_known : (v : List ItemOf) (ps : List WorldPart) → v ≡ map part_item
 once_known v ps is once p = subst (λ (l : List WorldPart). count (same_part p) l ≤ 1) (parts_are v ps is) (once p)
 
 -- the world to which a history leads is in order, and has the parts
-pub world_has_parts : (d : Discipline) (n about : ℕ) (log : List Record) (v : List ItemOf) (ps : List WorldPart)
+pub world_has_parts : (d : Discipline) (n setup : ℕ) (log : List Record) (v : List ItemOf) (ps : List WorldPart)
     (kept : JournalState)
-    → about ≡ n → v ≡ map part_item ps
-    → ((w : World) × IsHistory (RecordStep d) (opening_world about) log w × (journal_state_of w ≡ kept) × Each (HasPart w) (parts_of v))
+    → setup ≡ n → v ≡ map part_item ps
+    → ((w : World) × IsHistory (RecordStep d) (opening_world setup) log w × (journal_state_of w ≡ kept) × Each (HasPart w) (parts_of v))
     → (w : World) × IsHistory (RecordStep d) (opening_world n) log w × IsSound n w × (w.drawn ≡ kept.drawn) × Each (HasPart w) ps
-world_has_parts d n about log v ps kept same is k =
+world_has_parts d n setup log v ps kept same is k =
     let leads : IsHistory (RecordStep d) (opening_world n) log k.0 =
     subst (λ (m : ℕ). IsHistory (RecordStep d) (opening_world m) log k.0) same k.1 in (
       k.0,

@@ -34,7 +34,7 @@ pub struct Locks<Q: RunQueue + Drop, N: Naming + Counting, const P: usize> {
     pub lobby: Mutex<UnderLock<OneLobby, N>>,
     pub journal: Mutex<Journal<Record, WorldPart, JournalState, N>>,
     pub room: Mutex<ClosingRoom<Q, P>>,
-    pub ghost about: { history.about ≡ P },
+    pub ghost setup: { history.setup ≡ P },
     pub ghost counted: { vec_len cpus ≡ P },
     pub ghost one_each: { vec_len inboxes ≡ P },
     pub ghost few: { P ≤ PROCESSORS },

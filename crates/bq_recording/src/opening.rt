@@ -1,10 +1,12 @@
 //! A machine's parts, its history, its counters and its seats at the start.
 ghost use Rattle.std.specs.Prelude.{◌≡◌, ◌≤◌, ◌++◌, [], All, IfOk, length, map, vec_len, replicate};
 ghost use Rattle.bq_disc.specs.declared.limits.TheConstants.{FIRST_MARK, PROCESSORS};
+ghost use Rattle.bq_history.specs.Tables.{table_of, start_of};
 ghost use Rattle.bq_history.specs.Items.{callers_from, part_item};
 ghost use Rattle.bq_shared.specs.Calls.{fresh_callers};
 ghost use Rattle.bq_shared.specs.Sums.{opened};
 ghost use Rattle.bq_shared.specs.Parts.{first_parts};
+ghost use Rattle.bq_shared.specs.Prepared.{ArePrepared};
 
 use crate::locked_parts::{PartLocks, part_locks};
 use crate::prepared::Prepared;
@@ -29,7 +31,7 @@ pub struct Opening<Q: RunQueue + Drop, N: Naming + Counting, const P: usize> {
     pub lobby: Mutex<UnderLock<OneLobby, N>>,
     pub room: Mutex<ClosingRoom<Q, P>>,
     pub seats: u64,
-    ghost about: { recorder.history.about ≡ P },
+    ghost setup: { recorder.history.setup ≡ P },
     ghost counted: { vec_len cpus ≡ P },
     ghost one_each: { vec_len inboxes ≡ P },
     ghost few: { P ≤ PROCESSORS },
@@ -47,9 +49,9 @@ impl<Q: RunQueue + Drop, N: Naming + Counting, const P: usize> Opening<Q, N, P> 
         seat_count: u64,
     ) -> Result<(Opening<Q, N, P>, Vec<MachineSeat<N>>), AllocError>
         requires few { P ≤ PROCESSORS }
-        requires name { prepared.0 ≡ N.table }
-        requires counters { unnamed.0 ≡ N.counters }
-        requires counts { (prepared.1.about ≡ P) × (prepared.1.callers ≡ seat_count) × (unnamed.1 ≡ seat_count) }
+        requires name { table_of prepared ≡ N.table }
+        requires counters { table_of unnamed ≡ N.counters }
+        requires counts { ArePrepared P seat_count prepared unnamed }
         requires many { length queues.items ≡ P }
         requires empty { All (λ q. (Q.members q ≡ []) × (Q.last_mark q ≡ FIRST_MARK)) queues.items }
         ensures seats { IfOk result (λ r. r.1.items ≡ fresh_callers 0 seat_count) }
@@ -95,12 +97,12 @@ fn recorder_at_start<Q: RunQueue + Drop, N: Naming + Counting>(
     CounterTally<N>,
 )
     requires few { count ≤ PROCESSORS }
-    requires name { prepared.0 ≡ N.table }
-    requires counters { unnamed.0 ≡ N.counters }
-    requires counts { (prepared.1.about ≡ count) × (unnamed.1 ≡ prepared.1.callers) }
-    ensures history { result.0.history ≡ prepared.1 }
-    ensures items { result.1 ≡ map part_item (first_parts count) ++ callers_from 0 prepared.1.callers }
-    ensures account { result.2 ≡ opened unnamed.1 }
+    requires name { table_of prepared ≡ N.table }
+    requires counters { table_of unnamed ≡ N.counters }
+    requires counts { ((start_of prepared).setup ≡ count) × (start_of unnamed ≡ (start_of prepared).callers) }
+    ensures history { result.0.history ≡ start_of prepared }
+    ensures items { result.1 ≡ map part_item (first_parts count) ++ callers_from 0 (start_of prepared).callers }
+    ensures account { result.2 ≡ opened (start_of unnamed) }
 {
     let (history, mut all) = prepared.named::<N>();
     let (counters, account) = unnamed.named::<N>();

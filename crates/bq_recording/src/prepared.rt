@@ -1,5 +1,6 @@
 //! The world at the start, before the machine has a name.
 ghost use Rattle.std.specs.Prelude.{◌≡◌, IfOk};
+ghost use Rattle.bq_history.specs.Tables.{start_of};
 
 use bq_disc::RunQueue;
 use bq_history::{FixedAtStart, Opened, open};
@@ -15,13 +16,13 @@ pub fn prepare<Q: RunQueue>(
     processors: u64,
     seats: u64,
 ) -> Result<(Prepared<Q>, UnnamedCounters), AllocError>
-    ensures world { IfOk result (λ p. (p.0.1.about ≡ processors) × (p.0.1.callers ≡ seats)) }
-    ensures counters { IfOk result (λ p. p.1.1 ≡ seats) }
+    ensures world { IfOk result (λ p. ((start_of p.0).setup ≡ processors) × ((start_of p.0).callers ≡ seats)) }
+    ensures counters { IfOk result (λ p. start_of p.1 ≡ seats) }
 {
     let prepared = open::<SchedulerLaw<Q>>(
         alloc,
         &FixedAtStart {
-            about: processors,
+            setup: processors,
             callers: seats,
         },
     )?;

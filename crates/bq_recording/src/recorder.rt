@@ -1,6 +1,7 @@
 //! What all callers share besides the locks of the world's parts.
-ghost use Rattle.std.specs.Prelude.{◌≡◌, ◌≤◌, ◌<◌, ◌+◌, ◌^◌, length};
+ghost use Rattle.std.specs.Prelude.{◌≡◌, ◌≤◌};
 ghost use Rattle.std.specs.Sync.Mutex.{mutex_guard_value};
+ghost use Rattle.bq_history.specs.Journals.{HasRoom};
 ghost use Rattle.bq_disc.specs.declared.limits.TheConstants.{PROCESSORS};
 
 use bq_disc::RunQueue;
@@ -29,7 +30,7 @@ pub struct Recorder<Q: RunQueue + Drop, N: Naming + Counting> {
     pub history: Shared<Q, N>,
     pub counters: Counters<N>,
     pub journal: Mutex<Journal<Record, WorldPart, JournalState, N>>,
-    pub ghost few: { history.about ≤ PROCESSORS },
+    pub ghost few: { history.setup ≤ PROCESSORS },
     pub ghost same: { counters ≡ history.callers },
 }
 
@@ -37,7 +38,7 @@ impl<Q: RunQueue + Drop, N: Naming + Counting> Recorder<Q, N> {
     /// Locks the journal. Waits for ever if there is no room for another record.
     #[inline(always)]
     pub fn lock_journal<R: Wait>(&self, rt: &R) -> LockedJournal<'_, N>
-        ensures { length (mutex_guard_value result).0 + 1 < 2 ^ 64 }
+        ensures { HasRoom (mutex_guard_value result) }
     {
         let guard = lock(rt, &self.journal);
         guard.need_room(rt);

@@ -1,8 +1,10 @@
 -- The calls of counters in records.
-use Rattle.std.specs.Prelude.{ℕ, zero, suc, ◌+◌, List, [], ◌∷◌, ◌++◌, length}
+use Rattle.std.specs.Prelude.{◌≡◌, ℕ, zero, suc, ◌+◌, List, [], ◌∷◌, ◌++◌, length}
 use Rattle.bq_bpf.specs.declared.board.CounterCall.{CounterCall}
 use Rattle.bq_history.specs.declared.shared_state.Receipt.{Receipt}
+use Rattle.bq_history.specs.Callers.{receipts_of}
 use Rattle.bq_shared.specs.declared.account.Account.{Account}
+use Rattle.bq_shared.specs.declared.working.Working.{Working}
 
 module _ {R : Type 0} (calls : R → List CounterCall) where
   -- the calls in some records
@@ -19,6 +21,10 @@ module _ {R : Type 0} (calls : R → List CounterCall) where
   abbrev pub account_of : List (Receipt R) → Account
   account_of xs = record { seats = 1; calls = calls_of xs }
 
+  -- what the seat holds is in step: its account has exactly the calls in its receipts
+  abbrev pub IsTallied : {P D N : Type 0} → Working R P D N → Type 0
+  IsTallied working = working.tally ≡ account_of (receipts_of working.caller)
+
   -- the account of such a seat after further calls, which no receipt has yet
   abbrev pub ahead : List (Receipt R) → List CounterCall → Account
   ahead xs [] = account_of xs
@@ -27,7 +33,7 @@ module _ {R : Type 0} (calls : R → List CounterCall) where
   -- the calls in the receipts of all callers
   abbrev pub calls_by : List (ℕ × List (Receipt R)) → List CounterCall
   calls_by [] = []
-  calls_by (c ∷ cs) = calls_of c.1 ++ calls_by cs
+  calls_by (c ∷ cs) = calls_of (receipts_of c) ++ calls_by cs
 
   -- the account of all these callers together
   abbrev pub account_by : List (ℕ × List (Receipt R)) → Account

@@ -3,5 +3,6 @@ pub mod Listed
 pub mod Sums
 pub mod Parts
 pub mod Opened
+pub mod Prepared
 pub mod PackedReplies
 pub mod Events

@@ -33,13 +33,14 @@ pub struct CounterTally<N: Counting> {
 
 impl<N: Counting> Model for CounterTally<N> {
     ghost use Rattle.std.specs.Prelude.{◌≡◌, []};
+    ghost use Rattle.bq_history.specs.Tables.{view_of, slots_of};
     ghost use Rattle.bq_shared.specs.declared.account.Account.{Account as AccountOf};
 
     ghost Value = { AccountOf };
 
-    ghost view = { λ t. t.seat.me.0 };
+    ghost view = { λ t. view_of t.seat.me };
 
-    ghost invariant = { λ t. (t.seat.table_id ≡ N.counters) × (t.seat.me.1 ≡ []) };
+    ghost invariant = { λ t. (t.seat.table_id ≡ N.counters) × (slots_of t.seat.me ≡ []) };
 }
 
 /// The rule of the counters' table.
@@ -59,9 +60,10 @@ pub struct Adding;
 impl Play<(), Account> for Adding {
     ghost use Rattle.std.specs.Prelude.{◌≡◌};
     ghost use Rattle.bq_bpf.specs.declared.board.CounterCall.TheVariants.{Add};
+    ghost use Rattle.bq_history.specs.Tables.{view_of, slots_of};
     ghost use Rattle.bq_shared.specs.Sums.{account_called};
 
-    ghost then = { λ step v found w. (w.0 ≡ account_called v.0 (Add step.word step.first found)) × (w.1 ≡ v.1) };
+    ghost then = { λ step v found w. (view_of w ≡ account_called (view_of v) (Add step.word step.first found)) × (slots_of w ≡ slots_of v) };
 }
 
 /// A read, which the account records.
@@ -70,9 +72,10 @@ pub struct Reading;
 impl Play<(), Account> for Reading {
     ghost use Rattle.std.specs.Prelude.{◌≡◌};
     ghost use Rattle.bq_bpf.specs.declared.board.CounterCall.TheVariants.{Read};
+    ghost use Rattle.bq_history.specs.Tables.{view_of, slots_of};
     ghost use Rattle.bq_shared.specs.Sums.{account_called};
 
-    ghost then = { λ step v found w. (w.0 ≡ account_called v.0 (Read step.word found)) × (w.1 ≡ v.1) };
+    ghost then = { λ step v found w. (view_of w ≡ account_called (view_of v) (Read step.word found)) × (slots_of w ≡ slots_of v) };
 }
 
 /// A look, which no account records.
@@ -80,8 +83,9 @@ pub struct Looking;
 
 impl Play<(), Account> for Looking {
     ghost use Rattle.std.specs.Prelude.{◌≡◌};
+    ghost use Rattle.bq_history.specs.Tables.{view_of, slots_of};
 
-    ghost then = { λ _ v _ w. (w.0 ≡ v.0) × (w.1 ≡ v.1) };
+    ghost then = { λ _ v _ w. (view_of w ≡ view_of v) × (slots_of w ≡ slots_of v) };
 }
 
 /// A look by one who has no account yet. It makes an account of no seat.
@@ -89,15 +93,16 @@ pub struct UnseatedLook;
 
 impl Play<(), Account> for UnseatedLook {
     ghost use Rattle.std.specs.Prelude.{◌≡◌, []};
+    ghost use Rattle.bq_history.specs.Tables.{view_of, slots_of};
     ghost use Rattle.bq_shared.specs.Sums.{spent};
 
-    ghost then = { λ _ _ _ w. (w.0 ≡ spent) × (w.1 ≡ []) };
+    ghost then = { λ _ _ _ w. (view_of w ≡ spent) × (slots_of w ≡ []) };
 }
 
 /// Gives one seat an account of its own.
-pub struct Apart;
+pub struct OneSeat;
 
-impl Split<Account> for Apart {
+impl Split<Account> for OneSeat {
     ghost use Rattle.bq_shared.specs.Sums.{without_one, opened};
 
     ghost left = { without_one };
@@ -106,9 +111,9 @@ impl Split<Account> for Apart {
 }
 
 /// Gives the whole account to another tally.
-pub struct Whole;
+pub struct WholeAccount;
 
-impl Split<Account> for Whole {
+impl Split<Account> for WholeAccount {
     ghost use Rattle.bq_shared.specs.Sums.{spent};
 
     ghost left = { λ _. spent };
@@ -117,9 +122,9 @@ impl Split<Account> for Whole {
 }
 
 /// Makes two accounts one.
-pub struct Together;
+pub struct AccountsJoined;
 
-impl Join<Account> for Together {
+impl Join<Account> for AccountsJoined {
     ghost use Rattle.bq_shared.specs.Sums.{joined_accounts, spent as empty};
 
     ghost both = { joined_accounts };

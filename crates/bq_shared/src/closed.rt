@@ -2,6 +2,7 @@
 ghost use Rattle.std.specs.Prelude.{◌≡◌, ◌≤◌, ◌++◌, map};
 ghost use Rattle.bq_history.specs.Whole.{count, Each};
 ghost use Rattle.bq_history.specs.History.{IsHistory, EachOnce, AreReceiptsOf};
+ghost use Rattle.bq_history.specs.Journals.{records_of, kept_of};
 ghost use Rattle.bq_history.specs.Items.{caller_of, part_item, parts_of};
 ghost use Rattle.bq_shared.specs.Sums.{AreSumsOf};
 ghost use Rattle.bq_shared.specs.Calls.{account_by, calls_in};
@@ -22,8 +23,8 @@ pub fn close<R: ReportsCalls + Drop, M: World<Record = R>, N: Naming + Counting>
     requires parts { parts ≡ map part_item (parts_of parts) }
     requires seats { EachOnce history.callers seats.items }
     requires same { counters ≡ history.callers }
-    ensures history { result.0 ≡ journal.0 }
-    ensures world { (w : M.State) × IsHistory (M.step history.about) (M.opening history.about) result.0 w × (M.kept w ≡ journal.1) × Each (M.fits w) (parts_of parts) }
+    ensures history { result.0 ≡ records_of journal }
+    ensures world { (w : M.State) × IsHistory (M.step history.setup) (M.opening history.setup) result.0 w × (M.kept w ≡ kept_of journal) × Each (M.fits w) (parts_of parts) }
     ensures once { (p : M.Part) → count (M.same p) (parts_of parts) ≤ 1 }
     ensures receipts { AreReceiptsOf result.0 seats.items }
     ensures counters { AreSumsOf (calls_in R.calls result.0) result.1 }

@@ -1,11 +1,12 @@
 //! The counters.
 ghost use Rattle.std.specs.Prelude.{◌≡◌, ◌<◌, ◌≤◌, IfOk, []};
 ghost use Rattle.bq_bpf.specs.declared.board.CounterCall.TheVariants.{Add, Read};
+ghost use Rattle.bq_history.specs.Tables.{table_of, start_of};
 ghost use Rattle.bq_shared.specs.Sums.{AreSumsOf, joined_accounts, account_called, opened, spent, without_one};
 
 use crate::account::{
-    Account, Adding, Apart, CounterTally, Counting, Looking, Reading, Summed, Together,
-    UnseatedLook, Whole,
+    Account, AccountsJoined, Adding, CounterTally, Counting, Looking, OneSeat, Reading, Summed,
+    UnseatedLook, WholeAccount,
 };
 use atomic_table::{Seat, Table};
 use bq_bpf::board::COUNTERS;
@@ -55,7 +56,7 @@ impl<N: Counting> Model for Counters<N> {
 impl UnnamedCounters {
     /// New counters, all of them 0.
     pub fn new(alloc: Global, seats: u64) -> Result<UnnamedCounters, AllocError>
-        ensures { IfOk result (λ u. u.1 ≡ seats) }
+        ensures { IfOk result (λ u. start_of u ≡ seats) }
     {
         let (table, seat) = Table::of_words(alloc, &[0; COUNTERS], &seats)?;
         Ok(UnnamedCounters { table, seat })
@@ -63,8 +64,8 @@ impl UnnamedCounters {
 
     /// The counters under their name, and the account of all seats.
     pub fn named<N: Counting>(self) -> (Counters<N>, CounterTally<N>)
-        requires { self.0 ≡ N.counters }
-        ensures { (result.0 ≡ self.1) × (result.1 ≡ opened self.1) }
+        requires { table_of self ≡ N.counters }
+        ensures { (result.0 ≡ start_of self) × (result.1 ≡ opened (start_of self)) }
     {
         let UnnamedCounters { table, seat } = self;
         (
@@ -93,11 +94,11 @@ impl<N: Counting> Counters<N> {
     }
 
     /// Takes the account of one seat out of another account.
-    pub fn part(&self, from: &mut CounterTally<N>) -> CounterTally<N>
+    pub fn take_seat(&self, from: &mut CounterTally<N>) -> CounterTally<N>
         requires { (1 ≤ from.old.seats) × (from.old.calls ≡ []) }
         ensures { (from.new ≡ without_one from.old) × (result ≡ opened 1) }
     {
-        let seat = self.table.shared.split_seat::<Apart>(&mut from.seat);
+        let seat = self.table.shared.split_seat::<OneSeat>(&mut from.seat);
         CounterTally {
             seat,
             of: PhantomData,
@@ -105,10 +106,10 @@ impl<N: Counting> Counters<N> {
     }
 
     /// Gives the whole account to a new tally.
-    pub fn take(&self, from: &mut CounterTally<N>) -> CounterTally<N>
+    pub fn take_all(&self, from: &mut CounterTally<N>) -> CounterTally<N>
         ensures { (from.new ≡ spent) × (result ≡ from.old) }
     {
-        let seat = self.table.shared.split_seat::<Whole>(&mut from.seat);
+        let seat = self.table.shared.split_seat::<WholeAccount>(&mut from.seat);
         CounterTally {
             seat,
             of: PhantomData,
@@ -120,7 +121,9 @@ impl<N: Counting> Counters<N> {
         ensures { to.new ≡ joined_accounts to.old other }
     {
         let CounterTally { seat, of: _ } = other;
-        self.table.shared.join_seat::<Together>(&mut to.seat, seat);
+        self.table
+            .shared
+            .join_seat::<AccountsJoined>(&mut to.seat, seat);
     }
 
     /// Adds to a counter, and answers the value before.

@@ -1,6 +1,6 @@
 //! The world in parts, as the holders know them.
 ghost use Rattle.std.specs.Prelude.{◌≡◌};
-ghost use Rattle.bq_history.specs.Items.{kept_after};
+ghost use Rattle.bq_history.specs.Journals.{kept_after};
 ghost use Rattle.bq_shared.specs.Parts.{kept_by_block, kept_by_pull, one_less, with_one_more};
 
 use crate::record::Record;
@@ -124,7 +124,7 @@ impl<Q: RunQueue> World for SchedulerLaw<Q> {
 
     type Kept = JournalState;
 
-    type Fixed = u64;
+    type Setup = u64;
 
     ghost use Rattle.bq_parts.specs.World.{opening_world};
     ghost use Rattle.bq_shared.specs.Parts.{RecordStep, journal_state_of, same_part, HasPart, first_parts};

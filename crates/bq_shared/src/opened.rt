@@ -47,5 +47,5 @@ fn next_seat<R: ReportsCalls + Drop, M: World<Record = R>, N: Naming + Counting>
     ensures tallies { account.new ≡ without_one account.old }
 {
     let caller = Caller::open(history, all, number);
-    Seat::new(caller, counters.part(account))
+    Seat::new(caller, counters.take_seat(account))
 }

@@ -2,6 +2,7 @@
 ghost use Rattle.std.specs.Prelude.{◌≡◌, ◌<◌, ◌∷◌, ◌++◌, ℕ, List, []};
 ghost use Rattle.bq_bpf.specs.declared.board.CounterCall.{CounterCall};
 ghost use Rattle.bq_history.specs.declared.shared_state.Receipt.{Receipt as ReceiptOf};
+ghost use Rattle.bq_history.specs.Callers.{receipts_of};
 ghost use Rattle.bq_history.specs.Items.{caller_of};
 ghost use Rattle.bq_shared.specs.Sums.{joined_accounts, opened};
 ghost use Rattle.bq_shared.specs.Calls.{account_of};
@@ -38,17 +39,17 @@ impl<R: ReportsCalls + Drop, P, D, N: Naming + Counting> Model for Seat<R, P, D,
 
     ghost Value = { ℕ × List (ReceiptOf R) };
 
-    ghost use Rattle.bq_shared.specs.Calls.{account_of};
+    ghost use Rattle.bq_shared.specs.Calls.{IsTallied};
 
     ghost view = { λ s. s.working.caller };
 
-    ghost invariant = { λ s. s.working.tally ≡ account_of R.calls s.working.caller.1 };
+    ghost invariant = { λ s. IsTallied R.calls s.working };
 }
 
 impl<R: ReportsCalls + Drop, P, D, N: Naming + Counting> Seat<R, P, D, N> {
     /// A seat that has called nothing.
     pub fn new(caller: Caller<R, P, D, N>, tally: CounterTally<N>) -> Seat<R, P, D, N>
-        requires caller { caller.1 ≡ [] }
+        requires caller { receipts_of caller ≡ [] }
         requires tally { tally ≡ opened 1 }
         ensures { result ≡ caller }
     {
@@ -69,7 +70,7 @@ impl<R: ReportsCalls + Drop, P, D, N: Naming + Counting> Seat<R, P, D, N> {
         account: &mut CounterTally<N>,
     )
         ensures caller { all.new ≡ all.old ++ caller_of self ∷ [] }
-        ensures tally { account.new ≡ joined_accounts account.old (account_of R.calls self.1) }
+        ensures tally { account.new ≡ joined_accounts account.old (account_of R.calls (receipts_of self)) }
     {
         let Seat { working, .. } = self;
         let Working { caller, tally } = working;
@@ -87,9 +88,9 @@ impl<R: ReportsCalls + Drop, P, D, N: Naming + Counting> Seat<R, P, D, N> {
 }
 
 impl<R: ReportsCalls + Drop, P, D, N: Naming + Counting> Numbered for Seat<R, P, D, N> {
-    ghost use Rattle.std.specs.Prelude.{◌≡◌};
+    ghost use Rattle.bq_history.specs.Callers.{number_of};
 
-    ghost number = { λ s. s.0 };
+    ghost number = { number_of };
 
     fn number(&self) -> u64 {
         self.working.caller.number()

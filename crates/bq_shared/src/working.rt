@@ -1,8 +1,10 @@
 //! A seat while an event is under way.
-ghost use Rattle.std.specs.Prelude.{◌≡◌, ◌+◌, ◌<◌, ◌≤◌, ◌^◌, [], ◌∷◌, ◌++◌, length, true};
-ghost use Rattle.bq_history.specs.Items.{kept_after, part_item, MayCommit, MayCommitCell, MayCommitCells};
+ghost use Rattle.std.specs.Prelude.{◌≡◌, ◌≤◌, [], true};
+ghost use Rattle.bq_history.specs.Callers.{receipts_of, with_receipt};
+ghost use Rattle.bq_history.specs.Journals.{kept_of, kept_after, with_record, HasRoom, IsNextReceipt};
+ghost use Rattle.bq_history.specs.Items.{MayCommit, MayCommitCell, MayCommitCells, IsCellCommitted};
 ghost use Rattle.bq_shared.specs.Sums.{spent};
-ghost use Rattle.bq_shared.specs.Calls.{account_of, ahead};
+ghost use Rattle.bq_shared.specs.Calls.{ahead, IsTallied};
 
 use crate::seat::ReportsCalls;
 use crate::{CounterBoard, CounterTally, Counters, Counting};
@@ -27,7 +29,7 @@ impl<R: ReportsCalls, P, D, N: Naming + Counting> Working<R, P, D, N> {
         ensures caller { self.new.caller ≡ self.old.caller }
         ensures tally { self.new.tally ≡ spent }
     {
-        let tally = counters.take(&mut self.tally);
+        let tally = counters.take_all(&mut self.tally);
         CounterBoard { counters, tally }
     }
 
@@ -51,15 +53,15 @@ impl<R: ReportsCalls, P, D, N: Naming + Counting> Working<R, P, D, N> {
     where
         R: Drop,
         D: Drop,
-        requires fits { length journal.old.0 + 1 < 2 ^ 64 }
+        requires fits { HasRoom journal.old }
         requires ready { draft.room.now ≡ true }
         requires same { draft.logged ≡ draft.reported }
-        requires reported { self.old.tally ≡ ahead R.calls self.old.caller.1 (R.calls draft.reported) }
-        requires may { MayCommit (M.step history.now.about) (M.opening history.now.about) M.kept M.same M.fits journal.old.1 [] draft.reported (kept_after journal.old.1 draft.kept) [] }
-        ensures receipt { (result.place ≡ length journal.old.0) × (result.entry ≡ draft.entry.reported) }
-        ensures journal { journal.new ≡ (journal.old.0 ++ draft.entry.reported ∷ [], kept_after journal.old.1 draft.entry.kept) }
-        ensures caller { self.new.caller ≡ (self.old.caller.0, self.old.caller.1 ++ result ∷ []) }
-        ensures tally { self.new.tally ≡ account_of R.calls self.new.caller.1 }
+        requires reported { self.old.tally ≡ ahead R.calls (receipts_of self.old.caller) (R.calls draft.reported) }
+        requires may { MayCommit (M.step history.now.setup) (M.opening history.now.setup) M.kept M.same M.fits (kept_of journal.old) [] draft.reported (kept_after (kept_of journal.old) draft.kept) [] }
+        ensures receipt { IsNextReceipt draft.entry.reported journal.old result }
+        ensures journal { journal.new ≡ with_record draft.entry.reported draft.entry.kept journal.old }
+        ensures caller { self.new.caller ≡ with_receipt result self.old.caller }
+        ensures tally { IsTallied R.calls self.new }
     {
         commit(history, journal, &mut self.caller, draft)
     }
@@ -76,16 +78,16 @@ impl<R: ReportsCalls, P, D, N: Naming + Counting> Working<R, P, D, N> {
     where
         R: Drop,
         D: Drop,
-        requires fits { length journal.old.0 + 1 < 2 ^ 64 }
+        requires fits { HasRoom journal.old }
         requires ready { draft.room.now ≡ true }
         requires same { draft.logged ≡ draft.reported }
-        requires reported { self.old.tally ≡ ahead R.calls self.old.caller.1 (R.calls draft.reported) }
-        requires may { MayCommitCell (M.step history.now.about) (M.opening history.now.about) M.kept M.same M.fits A.part a.old journal.old.1 draft.reported draft.kept }
-        ensures receipt { (result.place ≡ length journal.old.0) × (result.entry ≡ draft.entry.reported) }
-        ensures journal { journal.new ≡ (journal.old.0 ++ draft.entry.reported ∷ [], kept_after journal.old.1 draft.entry.kept) }
-        ensures caller { self.new.caller ≡ (self.old.caller.0, self.old.caller.1 ++ result ∷ []) }
-        ensures tally { self.new.tally ≡ account_of R.calls self.new.caller.1 }
-        ensures a { (a.new.content ≡ a.old.content) × (a.new.holder ≡ part_item (A.part a.old.content) ∷ []) }
+        requires reported { self.old.tally ≡ ahead R.calls (receipts_of self.old.caller) (R.calls draft.reported) }
+        requires may { MayCommitCell (M.step history.now.setup) (M.opening history.now.setup) M.kept M.same M.fits A.part a.old (kept_of journal.old) draft.reported draft.kept }
+        ensures receipt { IsNextReceipt draft.entry.reported journal.old result }
+        ensures journal { journal.new ≡ with_record draft.entry.reported draft.entry.kept journal.old }
+        ensures caller { self.new.caller ≡ with_receipt result self.old.caller }
+        ensures tally { IsTallied R.calls self.new }
+        ensures a { IsCellCommitted A.part a.old a.new }
     {
         commit_one(history, journal, &mut self.caller, a, draft)
     }
@@ -102,17 +104,17 @@ impl<R: ReportsCalls, P, D, N: Naming + Counting> Working<R, P, D, N> {
     where
         R: Drop,
         D: Drop,
-        requires fits { length journal.old.0 + 1 < 2 ^ 64 }
+        requires fits { HasRoom journal.old }
         requires ready { draft.room.now ≡ true }
         requires same { draft.logged ≡ draft.reported }
-        requires reported { self.old.tally ≡ ahead R.calls self.old.caller.1 (R.calls draft.reported) }
-        requires may { MayCommitCells (M.step history.now.about) (M.opening history.now.about) M.kept M.same M.fits A.part B.part a.old b.old journal.old.1 draft.reported draft.kept }
-        ensures receipt { (result.place ≡ length journal.old.0) × (result.entry ≡ draft.entry.reported) }
-        ensures journal { journal.new ≡ (journal.old.0 ++ draft.entry.reported ∷ [], kept_after journal.old.1 draft.entry.kept) }
-        ensures caller { self.new.caller ≡ (self.old.caller.0, self.old.caller.1 ++ result ∷ []) }
-        ensures tally { self.new.tally ≡ account_of R.calls self.new.caller.1 }
-        ensures a { (a.new.content ≡ a.old.content) × (a.new.holder ≡ part_item (A.part a.old.content) ∷ []) }
-        ensures b { (b.new.content ≡ b.old.content) × (b.new.holder ≡ part_item (B.part b.old.content) ∷ []) }
+        requires reported { self.old.tally ≡ ahead R.calls (receipts_of self.old.caller) (R.calls draft.reported) }
+        requires may { MayCommitCells (M.step history.now.setup) (M.opening history.now.setup) M.kept M.same M.fits A.part B.part a.old b.old (kept_of journal.old) draft.reported draft.kept }
+        ensures receipt { IsNextReceipt draft.entry.reported journal.old result }
+        ensures journal { journal.new ≡ with_record draft.entry.reported draft.entry.kept journal.old }
+        ensures caller { self.new.caller ≡ with_receipt result self.old.caller }
+        ensures tally { IsTallied R.calls self.new }
+        ensures a { IsCellCommitted A.part a.old a.new }
+        ensures b { IsCellCommitted B.part b.old b.new }
     {
         commit_two(history, journal, &mut self.caller, a, b, draft)
     }

@@ -3,6 +3,8 @@
 //! program comes to the verifier: `check` of its hex, `check` and `run` of its file, and a trace's install.
 
 ghost use Rattle.std.specs.Prelude.{◌≡◌};
+ghost use Rattle.bq_history.specs.Tables.{table_of};
+ghost use Rattle.bq_shared.specs.Prepared.{ArePrepared};
 
 use crate::asserting::is_text;
 use bq_cfs::CfsQueue;
@@ -195,9 +197,9 @@ fn are_loaded<N: Naming + Counting, R: Abort + Wait>(
     prepared: Prepared<CfsQueue>,
     unnamed: UnnamedCounters,
 )
-    requires name { prepared.0 ≡ N.table }
-    requires counters { unnamed.0 ≡ N.counters }
-    requires counts { (prepared.1.about ≡ 1) × (prepared.1.callers ≡ 1) × (unnamed.1 ≡ 1) }
+    requires name { table_of prepared ≡ N.table }
+    requires counters { table_of unnamed ≡ N.counters }
+    requires counts { ArePrepared 1 1 prepared unnamed }
 {
     let (machine, mut seats) = Single::<N>::new(alloc, Steady, prepared, unnamed, 1).expect(
         rt, "memory",

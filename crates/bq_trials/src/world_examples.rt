@@ -1,6 +1,8 @@
 //! What a user of the library starts with: worlds, machines and traces. Each body stands, word for word, as the example of the call that
 //! it shows; `tests/examples.py` compares them.
 ghost use Rattle.std.specs.Prelude.{◌≡◌};
+ghost use Rattle.bq_history.specs.Tables.{table_of};
+ghost use Rattle.bq_shared.specs.Prepared.{ArePrepared};
 
 use crate::failing::Fail;
 use bq_bpf::Plain;
@@ -127,9 +129,9 @@ fn life_of_a_machine<N: Naming + Counting, R: Wait>(
     prepared: Prepared<CfsQueue>,
     unnamed: UnnamedCounters,
 ) -> Result<(u64, bool), Fail>
-    requires name { prepared.0 ≡ N.table }
-    requires counters { unnamed.0 ≡ N.counters }
-    requires counts { (prepared.1.about ≡ 1) × (prepared.1.callers ≡ 1) × (unnamed.1 ≡ 1) }
+    requires name { table_of prepared ≡ N.table }
+    requires counters { table_of unnamed ≡ N.counters }
+    requires counts { ArePrepared 1 1 prepared unnamed }
 {
     let (machine, mut seats) = Machine::<CfsQueue, Steady, N, 1>::new(
         alloc, Steady, prepared, unnamed, 1,

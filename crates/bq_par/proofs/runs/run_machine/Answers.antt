@@ -19,7 +19,7 @@ finish-requires g c =
     let fresh = fresh_many Record 0 g.row.P in (
       search rules,
       (
-        c.in_ok-machine.ensures.about.1,
+        c.in_ok-machine.ensures.history.1,
         (omega (arith, c.in_ok-done.ensures.many, c.in_ok-machine.seats.ok.0, seats, fresh), c.in_ok-done.ensures.shifts),
       ),
     )

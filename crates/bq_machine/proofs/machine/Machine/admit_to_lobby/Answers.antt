@@ -12,9 +12,9 @@ commit_one-requires-clause-may g c =
     let own = c.lobby.inside.cell.content.state in
     let k = c.deref_mut.result.now.1 in
     let a = c.args.admission in
-    let n = c.args.self.now.recorder.history.about in
-    let fits : argument_refusal n (Admit a.task a.nice a.mask a.slice) ≡ None = rw (← c.args.self.now.about) at c.requires.passed in
-    let new : c.args.new ≡ admitted n a.task a.nice a.mask a.slice = rw (← c.args.self.now.about) at c.requires.new in (
+    let n = c.args.self.now.recorder.history.setup in
+    let fits : argument_refusal n (Admit a.task a.nice a.mask a.slice) ≡ None = rw (← c.args.self.now.setup) at c.requires.passed in
+    let new : c.args.new ≡ admitted n a.task a.nice a.mask a.slice = rw (← c.args.self.now.setup) at c.requires.new in (
       lobby_part own,
       c.lobby.invariant.0,
       rw (c.draft-draft.ensures, c.quiet.ensures, c.event.ensures)

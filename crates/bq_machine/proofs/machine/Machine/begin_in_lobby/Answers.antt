@@ -9,7 +9,7 @@ use Rattle.bq_machine.proofs.machine.Machine.begin_in_lobby.Goals as goal
 pub commit_two-requires-clause-may : goal.commit_two-requires-clause-may
 commit_two-requires-clause-may g c =
     let d = g.Q.R.Discipline.discipline in
-    let n = c.args.self.now.recorder.history.about in
+    let n = c.args.self.now.recorder.history.setup in
     let own = c.args.cpu.now.content in
     let hall = c.lobby.inside.cell.content.state in
     let b = c.begin_wake-reply in
@@ -29,7 +29,7 @@ commit_two-requires-clause-reported g c = rw (c.draft-draft.ensures, c.new.ensur
 pub returns-clause-hand : goal.returns-clause-hand
 returns-clause-hand g c =
     let d = g.Q.R.Discipline.discipline in
-    let n = c.args.self.now.recorder.history.about in
+    let n = c.args.self.now.recorder.history.setup in
     let own = c.args.cpu.now.content in
     let hall = c.lobby.inside.cell.content.state in
     let b = c.begin_wake-reply in

@@ -1,5 +1,5 @@
 use Rattle.std.proofs.Common.{◌≡◌, ap, ◌∙◌}
-use Rattle.bq_history.specs.Items.{kept_after}
+use Rattle.bq_history.specs.Journals.{kept_after}
 use Rattle.bq_shared.specs.Parts.{cpu_part, lobby_part, kept_by_block}
 use Rattle.bq_shared.proofs.LookLemmas.{Seen, seen_ids}
 use Rattle.bq_shared.proofs.CallStepLemmas.{block_moves}
@@ -9,7 +9,7 @@ use Rattle.bq_machine.proofs.machine.Machine.block_at.Goals as goal
 pub block-reply-requires : goal.block-reply-requires
 block-reply-requires g c =
     let d = g.Q.R.Discipline.discipline in
-    let n = c.args.self.now.recorder.history.about in
+    let n = c.args.self.now.recorder.history.setup in
     let own = c.cpu.inside.cell.content in
     let here = c.cpu.view_is ∙ c.look.ensures.same in
     let seen : Seen d n own.number own.state = rw here c.look.ensures.world in
@@ -18,7 +18,7 @@ block-reply-requires g c =
 pub commit_two-requires-clause-may : goal.commit_two-requires-clause-may
 commit_two-requires-clause-may g c =
     let d = g.Q.R.Discipline.discipline in
-    let n = c.args.self.now.recorder.history.about in
+    let n = c.args.self.now.recorder.history.setup in
     let own = c.cpu.inside.cell.content in
     let hall = c.lobby.inside.cell.content.state in
     let b = c.block-reply in

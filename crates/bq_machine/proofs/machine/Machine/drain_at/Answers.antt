@@ -9,7 +9,7 @@ use Rattle.bq_machine.proofs.machine.Machine.drain_at.Goals as goal
 pub drain-reply-requires-clause-once : goal.drain-reply-requires-clause-once
 drain-reply-requires-clause-once g c =
     let d = g.Q.R.Discipline.discipline in
-    let n = c.args.self.now.recorder.history.about in
+    let n = c.args.self.now.recorder.history.setup in
     let own = c.cpu.inside.cell.content in
     let box = c.inbox.inside.cell.content in
     let P = c.deref_mut-cpu.result.now in
@@ -26,7 +26,7 @@ drain-reply-requires-clause-once g c =
 pub drain-reply-requires-clause-ids : goal.drain-reply-requires-clause-ids
 drain-reply-requires-clause-ids g c =
     let d = g.Q.R.Discipline.discipline in
-    let n = c.args.self.now.recorder.history.about in
+    let n = c.args.self.now.recorder.history.setup in
     let own = c.cpu.inside.cell.content in
     let box = c.inbox.inside.cell.content in
     let P = c.deref_mut-cpu.result.now in
@@ -43,7 +43,7 @@ drain-reply-requires-clause-ids g c =
 pub commit_two-requires-clause-may : goal.commit_two-requires-clause-may
 commit_two-requires-clause-may g c =
     let d = g.Q.R.Discipline.discipline in
-    let n = c.args.self.now.recorder.history.about in
+    let n = c.args.self.now.recorder.history.setup in
     let own = c.cpu.inside.cell.content in
     let box = c.inbox.inside.cell.content in
     let here = c.cpu.view_is ∙ c.look_at_both.ensures.a in

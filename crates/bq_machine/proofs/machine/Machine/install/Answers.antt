@@ -13,11 +13,11 @@ use Rattle.bq_machine.proofs.machine.Machine.install.Goals as goal
 
 pub replace-reply-requires : goal.replace-reply-requires
 replace-reply-requires g c =
-    let n = c.args.self.now.recorder.history.about in
+    let n = c.args.self.now.recorder.history.setup in
     let h = c.args.hook in
     let generation = c.args.generation in
     let i = c.args.spare.installed in
-    let below : c.args.processor < n = omega (arith, c.requires.inside, c.args.self.now.about) in
+    let below : c.args.processor < n = omega (arith, c.requires.inside, c.args.self.now.setup) in
     let fits : argument_refusal n (Install c.args.processor h generation i.policy) ≡ None =
     rw (lt-leb n c.args.processor below, c.requires.hook) refl in
     rw c.set_generation.ensures (install_suits n c.args.processor generation h i.policy fits)
@@ -25,7 +25,7 @@ replace-reply-requires g c =
 pub commit_one-requires-clause-may : goal.commit_one-requires-clause-may
 commit_one-requires-clause-may g c =
     let d = g.Q.R.Discipline.discipline in
-    let n = c.args.self.now.recorder.history.about in
+    let n = c.args.self.now.recorder.history.setup in
     let h = c.args.hook in
     let generation = c.args.generation in
     let i = c.args.spare.installed in
@@ -36,7 +36,7 @@ commit_one-requires-clause-may g c =
     let q = c.replace-reply.new.self in
     let same : own.number ≡ c.args.processor =
     ap (λ x. x.number) (c.cpu.view_is ∙ c.deref_mut-cpu.ensures.value) ∙ c.lock_processor-guard.ensures.own in
-    let below : c.args.processor < n = omega (arith, c.requires.inside, c.args.self.now.about) in
+    let below : c.args.processor < n = omega (arith, c.requires.inside, c.args.self.now.setup) in
     let fits : argument_refusal n (Install c.args.processor h generation i.policy) ≡ None =
     rw (lt-leb n c.args.processor below, c.requires.hook) refl in
     let whole : s ≡ record { policy = i.policy; generation = generation; maps = fresh_maps i.policy } =

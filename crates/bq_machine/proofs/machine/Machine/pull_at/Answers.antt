@@ -1,5 +1,5 @@
 use Rattle.std.proofs.Common.{Ok, ◌≡◌, ◌≢◌, ap, ◌∙◌, arith}
-use Rattle.bq_history.specs.Items.{kept_after}
+use Rattle.bq_history.specs.Journals.{kept_after}
 use Rattle.bq_shared.specs.Parts.{cpu_part, kept_by_pull}
 use Rattle.bq_shared.proofs.LookLemmas.{SeenTwo, two_once, two_ids}
 use Rattle.bq_shared.proofs.PullStepLemmas.{pull_moves}
@@ -13,7 +13,7 @@ pull-reply-requires-clause-inside g c = omega (arith, c.requires.inside.0, c.arg
 pub pull-reply-requires-clause-once : goal.pull-reply-requires-clause-once
 pull-reply-requires-clause-once g c =
     let d = g.Q.R.Discipline.discipline in
-    let n = c.args.self.now.recorder.history.about in
+    let n = c.args.self.now.recorder.history.setup in
     let own = c.cpu.inside.cell.content in
     let other = c.source.inside.cell.content in
     let here = c.cpu.view_is ∙ c.look_at_both.ensures.a in
@@ -29,7 +29,7 @@ pull-reply-requires-clause-once g c =
 pub pull-reply-requires-clause-ids : goal.pull-reply-requires-clause-ids
 pull-reply-requires-clause-ids g c =
     let d = g.Q.R.Discipline.discipline in
-    let n = c.args.self.now.recorder.history.about in
+    let n = c.args.self.now.recorder.history.setup in
     let own = c.cpu.inside.cell.content in
     let other = c.source.inside.cell.content in
     let here = c.cpu.view_is ∙ c.look_at_both.ensures.a in
@@ -45,7 +45,7 @@ pull-reply-requires-clause-ids g c =
 pub commit_two-requires-clause-may : goal.commit_two-requires-clause-may
 commit_two-requires-clause-may g c =
     let d = g.Q.R.Discipline.discipline in
-    let n = c.args.self.now.recorder.history.about in
+    let n = c.args.self.now.recorder.history.setup in
     let own = c.cpu.inside.cell.content in
     let other = c.source.inside.cell.content in
     let here = c.cpu.view_is ∙ c.look_at_both.ensures.a in

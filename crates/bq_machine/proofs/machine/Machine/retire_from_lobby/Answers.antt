@@ -15,7 +15,7 @@ pub commit_one-requires-clause-may : goal.commit_one-requires-clause-may
 commit_one-requires-clause-may g c =
     let own = c.lobby.inside.cell.content.state in
     let k = c.deref_mut.result.now.1 in
-    let n = c.args.self.now.recorder.history.about in
+    let n = c.args.self.now.recorder.history.setup in
     let task = c.args.task in
     let fits : argument_refusal n (Retire task) ≡ None = c.requires.passed in
     let bound : task < 1024 = leb-false 1024 task (first_refusal_passed _ no.NoTask None fits).0 in (

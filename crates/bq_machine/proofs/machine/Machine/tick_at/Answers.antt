@@ -8,7 +8,7 @@ use Rattle.bq_machine.proofs.machine.Machine.tick_at.Goals as goal
 pub tick-reply-requires-clause-once : goal.tick-reply-requires-clause-once
 tick-reply-requires-clause-once g c =
     let d = g.Q.R.Discipline.discipline in
-    let n = c.args.self.now.recorder.history.about in
+    let n = c.args.self.now.recorder.history.setup in
     let own = c.cpu.inside.cell.content in
     let here = c.cpu.view_is ∙ c.look.ensures.same in
     let seen : Seen d n own.number own.state = rw here c.look.ensures.world in
@@ -17,7 +17,7 @@ tick-reply-requires-clause-once g c =
 pub tick-reply-requires-clause-ids : goal.tick-reply-requires-clause-ids
 tick-reply-requires-clause-ids g c =
     let d = g.Q.R.Discipline.discipline in
-    let n = c.args.self.now.recorder.history.about in
+    let n = c.args.self.now.recorder.history.setup in
     let own = c.cpu.inside.cell.content in
     let here = c.cpu.view_is ∙ c.look.ensures.same in
     let seen : Seen d n own.number own.state = rw here c.look.ensures.world in
@@ -25,7 +25,7 @@ tick-reply-requires-clause-ids g c =
 
 pub commit_one-requires-clause-may : goal.commit_one-requires-clause-may
 commit_one-requires-clause-may g c =
-    let n = c.args.self.now.recorder.history.about in
+    let n = c.args.self.now.recorder.history.setup in
     let own = c.cpu.inside.cell.content in
     let same : own.number ≡ c.args.processor =
     ap (λ x. x.number) (c.cpu.view_is ∙ c.look.ensures.same ∙ c.deref_mut-cpu.ensures.value)

@@ -12,7 +12,7 @@ pub invariant_of-opening : goal.invariant_of-opening
 invariant_of-opening g c =
     let of = c.recorder_at_start-recorder.ensures.history in
     record {
-      about = ap (λ s. s.about) of ∙ c.requires.counts.0;
+      setup = ap (λ s. s.setup) of ∙ c.requires.counts.0;
       counted = c.in_ok-locks.ensures.cpus;
       one_each = c.in_ok-locks.ensures.inboxes;
       few = c.requires.few;

@@ -1,6 +1,6 @@
 use Rattle.std.proofs.Common.{sym, ◌∙◌, arith}
 use Rattle.bq_history.proofs.MoveLemmas.{cuts}
-use Rattle.bq_history.proofs.owner.Owner.part.Goals as goal
+use Rattle.bq_history.proofs.owner.Owner.take_first.Goals as goal
 
 pub split_seat-seat-requires : goal.split_seat-seat-requires
 split_seat-seat-requires g c = (

@@ -1,6 +1,6 @@
 use Rattle.std.proofs.Common.{sym, ◌∙◌, arith}
 use Rattle.bq_history.proofs.MoveLemmas.{takes}
-use Rattle.bq_history.proofs.owner.Owner.take.Goals as goal
+use Rattle.bq_history.proofs.owner.Owner.take_all.Goals as goal
 
 pub split_seat-seat-requires : goal.split_seat-seat-requires
 split_seat-seat-requires g c = (

@@ -1,6 +1,6 @@
 use Rattle.std.proofs.Common.{sym, ◌∙◌, arith}
 use Rattle.bq_shared.proofs.KeepingLemmas.{takes}
-use Rattle.bq_shared.proofs.counters.Counters.take.Goals as goal
+use Rattle.bq_shared.proofs.counters.Counters.take_all.Goals as goal
 
 pub split_seat-seat-requires : goal.split_seat-seat-requires
 split_seat-seat-requires g c = (

@@ -1,6 +1,6 @@
 use Rattle.std.proofs.Common.{◌≡◌, ◌≤◌, [], sym, ◌∙◌, arith}
 use Rattle.bq_shared.proofs.KeepingLemmas.{parts}
-use Rattle.bq_shared.proofs.counters.Counters.part.Goals as goal
+use Rattle.bq_shared.proofs.counters.Counters.take_seat.Goals as goal
 
 pub split_seat-seat-requires : goal.split_seat-seat-requires
 split_seat-seat-requires g c =
