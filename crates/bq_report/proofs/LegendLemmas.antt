@@ -1,5 +1,5 @@
 -- The text of a map, a part behind another, and what its legend knows.
-use Rattle.std.proofs.Common.{◌≡◌, ◌∙◌, ◌↔◌, ℕ, zero, suc, ◌+◌, ◌<◌, ◌≤◌, Bool, true, false, cond, nat_lt, ◌&&◌, IsTrue, List, [], ◌∷◌, ◌++◌, length, get_or, set, take, Option, Contains, refl, sym, ap, subst, arith, append_assoc, append-nil, add-one, inl, inr}
+use Rattle.std.proofs.Common.{◌≡◌, ◌∙◌, ◌↔◌, ℕ, zero, suc, ◌+◌, ◌<◌, ◌≤◌, Bool, true, cond, nat_lt, ◌&&◌, IsTrue, List, [], ◌∷◌, ◌++◌, length, get_or, set, take, Option, Contains, refl, sym, ap, subst, arith, append_assoc, append-nil, add-one, inl, inr}
 use Rattle.std.specs.Prelude.{codes}
 use Rattle.std.specs.BTreeMap.{is_at}
 use Rattle.std.specs.BTreeSet.{contains}

@@ -12,7 +12,7 @@ use Rattle.std.proofs.lemmas.List.Sums.{prefix_len_passes, prefix_len_stops, pre
 use Rattle.bq_schedule.specs.declared.slice.Slice.{Slice}
 use Rattle.bq_report.specs.declared.map_row.Column.{Column}
 use Rattle.bq_report.specs.declared.map_row.Column.TheVariants.{Task, Hidden, Idle}
-use Rattle.bq_report.specs.Longest.{IsLongest, LastAsLong, task_time_between, time_between}
+use Rattle.bq_report.specs.Longest.{IsLongest, LastAsLong, time_between}
 use Rattle.bq_report.specs.declared.grid.Grid.{Grid}
 use Rattle.bq_report.specs.Maps.{AreColumns, IsColumn, RunsNone, idle_between, moment_at}
 use Rattle.bq_report.proofs.LongestLemmas.{share}
