@@ -117,6 +117,15 @@ abbrev pub RestIsSafe : Subject → List ℕ → (ℕ → ℕ) → ℕ → (Sett
 RestIsSafe p heights made slot K =
     (f : Setting) (s : State) → IsSetting p.slots p.shapes p.context f → slot ≤ s.slot → IsStart p.slots s.slot → K f s → EndsWithin f s (slice_index heights s.slot) (made s.slot)
 
+-- from each of these known states at an instruction, whatever numbers bound the counter calls, the program ends within as many
+-- steps as the height of its slot
+abbrev pub AllIsSafe : Subject → List ℕ → (Setting → State → Type 0) → Type 0
+AllIsSafe p heights K = (made : ℕ → ℕ) → BoundsCalls p.slots made → RestIsSafe p heights made 0 K
+
+-- control goes on for each machine state with the property `Is`, and the abstract state describes it
+abbrev pub GoesOnWith : (Setting → State → Type 0) → AbstractState → Bool → Type 0
+GoesOnWith Is state live = (f : Setting) (s : State) → Is f s → (live ≡ true) × Contains f state s
+
 -- the abstract state describes the machine state, and both operands are as told on this side of the branch; no state is
 -- on a side to which control never goes
 abbrev pub IsOnSide : Setting → AbstractState → ℕ → Source → Option AbstractValue → AbstractValue → Relation → State → Type 0

@@ -12,11 +12,15 @@ use Rattle.bq_verify.specs.Subjects.{Subject}
 use Rattle.bq_transfer.specs.Ready.{IsNullCheck, IsReady, IsReadyToAsk}
 use Rattle.bq_transfer.specs.After.{After}
 use Rattle.bq_transfer.specs.Sides.{is_found}
-use Rattle.bq_states.specs.Certainty.{Pointer, CertaintyHoldsAt, Fact, AtRegister, Has, Outlasts}
+use Rattle.bq_states.specs.Certainty.{Scalar, Pointer, CertaintyHoldsAt, Fact, AtRegister, Has, IsScalarOperand, Outlasts}
 use Rattle.bq_states.specs.Learnt.{HasLearnt, IsLasting}
 use Rattle.bq_states.specs.declared.abstract_state.ValueKind.TheVariants.{Entry, EntryOrNull}
 use Rattle.bq_states.specs.declared.abstract_state.AbstractValue.{AbstractValue}
 use Rattle.bq_states.specs.declared.abstract_state.AbstractState.{AbstractState}
+
+-- the abstract state has what the instruction needs in this program; for a call of a counter it never does
+abbrev pub IsReadyIn : Subject → AbstractState → Insn → Type 0
+IsReadyIn p state insn = IsReady p.shapes p.context state insn
 
 -- the abstract state has what the instruction needs, as a plain instruction or as a call of a counter
 abbrev pub IsReadyFor : Subject → AbstractState → Insn → Type 0
@@ -30,6 +34,10 @@ IsApartFrom x dst = Unit {0}
 -- the test compares an untested answer of a look-up in this map with 0
 abbrev pub IsAnswerCheck : AbstractState → ℕ → Width → Condition → ℕ → Source → Type 0
 IsAnswerCheck state map w c dst src = IsNullCheck w c src × CertaintyHoldsAt (Pointer (EntryOrNull map) 0) state dst
+
+-- if both operands of the test are known to be numbers, then this holds
+abbrev pub IfNumbersTested : AbstractState → ℕ → Source → Type 0 → Type 0
+IfNumbersTested state dst src Then = CertaintyHoldsAt Scalar state dst → IsScalarOperand state src → Then
 
 -- the fact is sure on one side of a test of a look-up's answer: the register is an entry, if it was found; or the fact
 -- is about something else and held before
@@ -48,6 +56,10 @@ HasIn x (Some boxed) = Has x boxed.value
 -- if an abstract state waits at slot `k`, the fact holds for it
 abbrev pub HasWaiting : Fact → Waiting → ℕ → Type 0
 HasWaiting x pending k = HasIn x (slice_index_or pending k None)
+
+-- each fact that held for what waits at any slot still does, at this slot if it also `Holds` of what came to wait there
+abbrev pub KeepsFacts : (Fact → Type 0) → ℕ → Waiting → Waiting → Type 0
+KeepsFacts Holds slot old new = (x : Fact) (k : ℕ) → HasWaiting x old k → (k ≡ slot → Holds x) → HasWaiting x new k
 
 -- the fact holds for each abstract state with which control reaches slot `k`: the one that waits there, and the one
 -- that is transferred to it

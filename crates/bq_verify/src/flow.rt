@@ -8,11 +8,10 @@ ghost use Rattle.bq_bpf.specs.Steps.{instruction_at};
 ghost use Rattle.bq_verify.specs.Subjects.{subject_of_view};
 ghost use Rattle.bq_transfer.specs.Obligations.{MayBeUnproven, ReadsOperand, UsesWord};
 ghost use Rattle.bq_verify.specs.Stops.{IsWantOfMemory, MayStop};
-ghost use Rattle.bq_verify.specs.Ways.{GoesOnSure, HasOnSide, HasWaiting, IsAnswerCheck, IsReadyFor, BranchesChecked, BranchesTested};
-ghost use Rattle.bq_states.specs.Certainty.{Fact, Has, IsScalarOperand, Scalar, CertaintyHoldsAt};
-ghost use Rattle.bq_transfer.specs.Ready.{IsReady};
+ghost use Rattle.bq_verify.specs.Ways.{GoesOnSure, HasOnSide, IfNumbersTested, IsAnswerCheck, IsReadyFor, IsReadyIn, KeepsFacts, BranchesChecked, BranchesTested};
+ghost use Rattle.bq_states.specs.Certainty.{Fact, Has, Scalar, CertaintyHoldsAt};
 ghost use Rattle.bq_states.specs.AbstractStates.{Contains};
-ghost use Rattle.bq_verify.specs.Control.{AddsWaiting, CanBePassed, LeadsOnFrom, IsKnown, IsOnSide, KeepsWaiting, BranchesFrom};
+ghost use Rattle.bq_verify.specs.Control.{AddsWaiting, CanBePassed, GoesOnWith, LeadsOnFrom, IsKnown, IsOnSide, KeepsWaiting, BranchesFrom};
 
 use crate::graph_numbers::target;
 use crate::pass_stop::PassStop;
@@ -108,8 +107,8 @@ fn visit_uncounted(
     ensures kept { OnOk result (KeepsWaiting subject.now.shapes.now pending.old pending.new) }
     ensures goes { IfOk result (λ live. LeadsOnFrom (subject_of_view subject.now) slot state.old (IsKnown pending.new state.new live (slot + 1))) }
     ensures obligations { IfErr result (λ stop. MayStop stop insn) }
-    ensures accepts { IsReady subject.now.shapes.now subject.now.context state.old insn → IfErr result IsWantOfMemory }
-    ensures sure { IsReady subject.now.shapes.now subject.now.context state.old insn → IfOk result (GoesOnSure subject.now.slots.now slot insn state.old pending.old pending.new state.new) }
+    ensures accepts { IsReadyIn (subject_of_view subject.now) state.old insn → IfErr result IsWantOfMemory }
+    ensures sure { IsReadyIn (subject_of_view subject.now) state.old insn → IfOk result (GoesOnSure subject.now.slots.now slot insn state.old pending.old pending.new state.new) }
 {
     match insn {
         Insn::Exit => {
@@ -185,10 +184,10 @@ fn branch(
     ensures kept { OnOk result (KeepsWaiting shapes.now pending.old pending.new) }
     ensures parts { IfOk result (λ live. BranchesFrom (IsKnown pending.new state.new live next) shapes.now state.old test.width test.cond test.dst test.src to next) }
     ensures obligations { IfErr result (λ stop. (insn : Insn) → ReadsOperand insn → UsesWord insn → MayStop stop insn) }
-    ensures number_test_accepted { test.dst < 10 → CertaintyHoldsAt Scalar state.old test.dst → IsScalarOperand state.old test.src → IfErr result IsWantOfMemory }
+    ensures number_test_accepted { test.dst < 10 → IfNumbersTested state.old test.dst test.src (IfErr result IsWantOfMemory) }
     ensures null_check_accepted { (map : ℕ) → test.dst < 10 → IsAnswerCheck state.old map test.width test.cond test.dst test.src → IfErr result IsWantOfMemory }
     ensures null_check_known { IfOk result (BranchesChecked state.old test.width test.cond test.dst test.src to next pending.old pending.new state.new) }
-    ensures number_test_known { CertaintyHoldsAt Scalar state.old test.dst → IsScalarOperand state.old test.src → IfOk result (BranchesTested state.old test.dst to next pending.old pending.new state.new) }
+    ensures number_test_known { IfNumbersTested state.old test.dst test.src (IfOk result (BranchesTested state.old test.dst to next pending.old pending.new state.new)) }
 {
     let Some(right) = operand(state, test.src) else {
         return Err(PassStop::Unproven(Obligation::Unset));
@@ -233,7 +232,7 @@ fn wait_on_side(
     ensures long { length pending.new ≡ length pending.old }
     ensures kept { OnOk result (KeepsWaiting shapes.now pending.old pending.new) }
     ensures added { OnOk result (AddsWaiting shapes.now slot (λ f. IsOnSide f state.now learnt.dst learnt.src learnt.left learnt.right learnt.relation) pending.new) }
-    ensures has { OnOk result ((x : Fact) (k : ℕ) → HasWaiting x pending.old k → (k ≡ slot → HasOnSide x state.now learnt.dst learnt.left) → HasWaiting x pending.new k) }
+    ensures has { OnOk result (KeepsFacts (λ x. HasOnSide x state.now learnt.dst learnt.left) slot pending.old pending.new) }
 {
     let Some(left) = learnt.left else {
         return Ok(());
@@ -254,7 +253,7 @@ fn wait_on_side(
 /// whether control goes there.
 fn keep_on_side(state: &mut AbstractState, learnt: Learnt) -> bool
     requires { learnt.dst < REGISTERS }
-    ensures contains { (f : Setting) (s : State) → IsOnSide f state.old learnt.dst learnt.src learnt.left learnt.right learnt.relation s → (result ≡ true) × Contains f state.new s }
+    ensures contains { GoesOnWith (λ f. IsOnSide f state.old learnt.dst learnt.src learnt.left learnt.right learnt.relation) state.new result }
     ensures has { (x : Fact) → HasOnSide x state.old learnt.dst learnt.left → result ≡ true → Has x state.new }
 {
     let Some(left) = learnt.left else {

@@ -10,7 +10,7 @@ ghost use Rattle.bq_states.specs.Certainty.{Pointer, Has, IsPlainAt, CertaintyHo
 ghost use Rattle.bq_verify.specs.Straight.{IsStraightProgram};
 ghost use Rattle.bq_verify.specs.Sure.{IsSure, WhereSure};
 ghost use Rattle.bq_states.specs.AbstractStates.{Contains};
-ghost use Rattle.bq_verify.specs.Control.{AreHeights, BoundsCalls, CanBePassed, IsKnown, PassesOn, RestIsSafe};
+ghost use Rattle.bq_verify.specs.Control.{AllIsSafe, AreHeights, BoundsCalls, CanBePassed, IsKnown, PassesOn};
 
 use crate::flow::visit;
 use crate::refused::{Refused, refuse};
@@ -56,7 +56,7 @@ fn pass(
     requires passable { CanBePassed (subject_of_view subject.now) }
     requires heights { AreHeights subject.now.slots.now heights.now }
     requires room { length pending.old ≡ length subject.now.slots.now }
-    ensures safe { OnOk result ((made : ℕ → ℕ) → BoundsCalls subject.now.slots.now made → RestIsSafe (subject_of_view subject.now) heights.now made 0 (IsKnown pending.old state.old true 0)) }
+    ensures safe { OnOk result (AllIsSafe (subject_of_view subject.now) heights.now (IsKnown pending.old state.old true 0)) }
     ensures stopped { IfErr result (IsStopped (subject_of_view subject.now)) }
     ensures accepts { IsStraightProgram (subject_of_view subject.now) → IsSure subject.now.slots.now pending.old state.old true 0 → IfErr result IsOutOfMemory }
 {

@@ -3,7 +3,7 @@
 ghost use Rattle.std.specs.Prelude.{◌≡◌, ◌<◌, ℕ, true, None, length, slice_index_or, IfOk, OnOk};
 ghost use Rattle.bq_bpf.specs.Memory.{Setting, State};
 ghost use Rattle.bq_states.specs.Certainty.{Fact, Has};
-ghost use Rattle.bq_verify.specs.Ways.{HasIn, HasWaiting, IsSureOf};
+ghost use Rattle.bq_verify.specs.Ways.{HasIn, HasWaiting, IsSureOf, KeepsFacts};
 ghost use Rattle.bq_states.specs.AbstractStates.{Contains};
 ghost use Rattle.bq_verify.specs.Control.{AddsWaiting, IsDescribed, IsKnown, KeepsWaiting};
 
@@ -82,7 +82,7 @@ pub fn wait(
     ensures long { length pending.new ≡ length pending.old }
     ensures kept { OnOk result (KeepsWaiting shapes.now pending.old pending.new) }
     ensures added { OnOk result (AddsWaiting shapes.now slot (λ f. Contains f state.now) pending.new) }
-    ensures has { OnOk result ((x : Fact) (k : ℕ) → HasWaiting x pending.old k → (k ≡ slot → Has x state.now) → HasWaiting x pending.new k) }
+    ensures has { OnOk result (KeepsFacts (λ x. Has x state.now) slot pending.old pending.new) }
 {
     join(alloc, shapes, &mut pending[slot], state)
 }
