@@ -13,7 +13,7 @@ use Rattle.bq_workload.specs.declared.periods.Periods.{Periods}
 use Rattle.bq_workload.specs.Accounts.{Accounts, changed_at, accounts_charged, runner_charged, grown, idled, is_same, occupied, of_processor, of_task, shrunk, accounts_switched, taken_over}
 use Rattle.bq_workload.specs.TaskProgress.{moved_to, run_for, progress_woken}
 use Rattle.bq_workload.specs.Dues.{size_at}
-use Rattle.bq_workload.proofs.AgreeLemmas.{changed_at-here, changed_at-none, changed_at-others, some_or_none}
+use Rattle.bq_workload.proofs.ListLemmas.{changed_at-here, changed_at-none, changed_at-others, some_or_none}
 use Rattle.bq_simulate.specs.Agreement.{runner_at, state_at}
 
 -- what is read at a place of some list

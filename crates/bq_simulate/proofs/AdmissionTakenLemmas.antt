@@ -29,7 +29,7 @@ use Rattle.bq_workload.specs.Accounts.{Accounts}
 use Rattle.bq_workload.specs.Soundness.{goes_round, has_numbers}
 use Rattle.bq_workload.specs.Lengths.{longest}
 use Rattle.bq_workload.specs.TaskProgress.{fresh_task}
-use Rattle.bq_workload.proofs.DueLemmas.{appended, appended_others}
+use Rattle.bq_workload.proofs.ListLemmas.{appended, appended_others}
 use Rattle.bq_core.proofs.EachProcessorLemmas.{at_set_else}
 use Rattle.bq_simulate.specs.Agreement.{AgreesWith, HaveProcessors, StandsAs, state_at}
 use Rattle.bq_simulate.specs.AgreementLaws.{AdmissionsAreTaken, accounts_with_task}

@@ -9,8 +9,8 @@ use Rattle.bq_workload.specs.declared.workload.TaskKind.{TaskKind}
 use Rattle.bq_workload.specs.declared.workload.Workload.{Workload}
 use Rattle.bq_workload.specs.Kinds.{kind_count, tasks_in}
 use Rattle.bq_workload.specs.TaskProgress.{fresh_task}
-use Rattle.bq_workload.proofs.AgreeLemmas.{some_or_none}
 use Rattle.bq_workload.proofs.SoundLemmas.{sound-few}
+use Rattle.bq_workload.proofs.ListLemmas.{some_or_none}
 use Rattle.bq_simulate.specs.declared.simulation.Simulation.{Simulation}
 use Rattle.bq_simulate.specs.Actions.{first_task_of}
 use Rattle.bq_simulate.specs.GoingWell.{SimulationGoesWell}

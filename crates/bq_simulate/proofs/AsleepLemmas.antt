@@ -15,7 +15,7 @@ use Rattle.bq_workload.specs.declared.workload.Workload.{Workload}
 use Rattle.bq_workload.specs.Accounts.{Accounts, accounts_of, shrunk}
 use Rattle.bq_workload.specs.Next.{HasHome, HaveHomes}
 use Rattle.bq_workload.specs.Strays.{HasNoNext, IsStrayLeave, IsStraySwitch}
-use Rattle.bq_workload.proofs.AgreeLemmas.{some_or_none}
+use Rattle.bq_workload.proofs.ListLemmas.{some_or_none}
 use Rattle.bq_simulate.specs.declared.driver.Driver.{Driver}
 use Rattle.bq_simulate.specs.declared.simulation.Simulation.{Simulation}
 use Rattle.bq_simulate.specs.Agreement.{runner_at}

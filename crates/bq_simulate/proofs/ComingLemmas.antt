@@ -9,8 +9,8 @@ use Rattle.bq_workload.specs.declared.processor_state.ProcessorState.{ProcessorS
 use Rattle.bq_workload.specs.Accounts.{Accounts, LooksAt, TicksAt}
 use Rattle.bq_workload.specs.Dues.{HasLargest, IsSource, other_than, size_at, until}
 use Rattle.bq_workload.specs.Next.{comes_at}
-use Rattle.bq_workload.proofs.AgreeLemmas.{some_or_none}
-use Rattle.bq_workload.proofs.AgreedLemmas.{look-of, look_at, tick-of, tick_at}
+use Rattle.bq_workload.proofs.ListLemmas.{some_or_none}
+use Rattle.bq_workload.proofs.ProcessorAgreesLemmas.{look-of, look_at, tick-of, tick_at}
 use Rattle.bq_simulate.proofs.TimeLemmas.{until_is}
 
 -- what comes until the end, if it comes

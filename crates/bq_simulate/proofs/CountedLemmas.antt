@@ -22,7 +22,7 @@ use Rattle.bq_workload.specs.Bounds.{steps_at_once, steps_for, steps_of, steps_o
 use Rattle.bq_workload.specs.Kinds.{tasks_in}
 use Rattle.bq_workload.specs.Lengths.{takes_time}
 use Rattle.bq_workload.specs.Soundness.{first_flaw}
-use Rattle.bq_workload.proofs.AgreeLemmas.{some_or_none}
+use Rattle.bq_workload.proofs.ListLemmas.{some_or_none}
 use Rattle.bq_simulate.specs.declared.driver.Driver.{Driver}
 use Rattle.bq_simulate.specs.Actions.{IsTaskOfKind, first_task_of}
 use Rattle.bq_simulate.specs.AtOnce.{kind_actions, in_all, steps_left_at, left_in, left_of_processor, left_of_task, steps_ahead, uncounted}

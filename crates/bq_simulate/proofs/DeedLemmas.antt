@@ -18,8 +18,8 @@ use Rattle.bq_workload.specs.Accounts.{Accounts, IsPhaseDone, LooksAt, TicksAt, 
 use Rattle.bq_workload.specs.TaskProgress.{fresh_task, progress_woken}
 use Rattle.bq_workload.specs.Dues.{IsSource}
 use Rattle.bq_workload.specs.Next.{IsAgreed, StaysAgreed}
-use Rattle.bq_workload.proofs.AgreedLemmas.{both}
-use Rattle.bq_workload.proofs.DueLemmas.{same-accounts}
+use Rattle.bq_workload.proofs.ProcessorAgreesLemmas.{both}
+use Rattle.bq_workload.proofs.RosterAgreesLemmas.{same-accounts}
 use Rattle.bq_simulate.specs.declared.simulation.Simulation.{Simulation}
 use Rattle.bq_simulate.specs.Actions.{IsTaskOfKind, acted, aim_of, asked_by, first_task_of, next_action, kind_start}
 use Rattle.bq_simulate.specs.Deeds.{Acts, Beats, Book, Deed, Happens, MayCome, IsWoken, Joins, DeedsLead, Looks, Misses, Reaches, Rings, after_act, after_answer, after_beat, after_event, after_look, drawn_with, events_of, is_busy, task_added, length_taken}

@@ -22,9 +22,9 @@ use Rattle.bq_workload.specs.Soundness.{first_flaw, is_action}
 use Rattle.bq_workload.specs.Streams.{stream_of_task}
 use Rattle.bq_workload.specs.Strays.{IsStrayEnd, IsStrayProgress, NoneIsDone}
 use Rattle.bq_workload.specs.TaskProgress.{run_for}
-use Rattle.bq_workload.proofs.AgreeLemmas.{changed_at-here, some_or_none}
-use Rattle.bq_workload.proofs.AgreedLemmas.{charged-is, end-of}
 use Rattle.bq_workload.proofs.SoundLemmas.{sound-few}
+use Rattle.bq_workload.proofs.ListLemmas.{changed_at-here, some_or_none}
+use Rattle.bq_workload.proofs.ProcessorAgreesLemmas.{charged-is, end-of}
 use Rattle.bq_simulate.specs.declared.simulation.Simulation.{Simulation}
 use Rattle.bq_simulate.specs.Actions.{acted, action_at, action_count, asked_by, next_action}
 use Rattle.bq_simulate.specs.Agreement.{AgreesWith, IsOnTime, ProcessorIsOnTime, RunsOnTime}

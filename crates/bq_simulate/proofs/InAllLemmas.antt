@@ -6,7 +6,7 @@ use Rattle.std.proofs.lemmas.List.Sums.{sum_by-cons}
 use Rattle.std.proofs.lemmas.Option.{none-some, same_Some}
 use Rattle.bq_workload.specs.declared.progress.TaskProgress.{TaskProgress}
 use Rattle.bq_workload.specs.Accounts.{changed_at}
-use Rattle.bq_workload.proofs.AgreeLemmas.{changed_at-none, some_or_none}
+use Rattle.bq_workload.proofs.ListLemmas.{changed_at-none, some_or_none}
 use Rattle.bq_simulate.specs.AtOnce.{in_all}
 
 -- Over processors, or what else stands in a list

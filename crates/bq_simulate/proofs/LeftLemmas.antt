@@ -15,8 +15,8 @@ use Rattle.bq_workload.specs.declared.workload.TaskKind.{TaskKind}
 use Rattle.bq_workload.specs.Accounts.{Accounts, changed_at, accounts_charged, idled, is_same, occupied, of_processor, of_task, accounts_passed, accounts_switched, taken_over}
 use Rattle.bq_workload.specs.Dues.{next_multiple}
 use Rattle.bq_workload.specs.TaskProgress.{lengthened, migrates_to, moved_to, run_for}
-use Rattle.bq_workload.proofs.AgreeLemmas.{changed_at-here, changed_at-none, changed_at-others, some_or_none}
-use Rattle.bq_workload.proofs.AgreedLemmas.{both, charged-is, counted, since_now}
+use Rattle.bq_workload.proofs.ListLemmas.{changed_at-here, changed_at-none, changed_at-others, some_or_none}
+use Rattle.bq_workload.proofs.ProcessorAgreesLemmas.{both, charged-is, counted, since_now}
 use Rattle.bq_simulate.specs.AtOnce.{in_all, steps_left_at, left_in, left_of_processor, left_of_task, steps_ahead, uncounted, uncounted_at}
 use Rattle.bq_simulate.proofs.AccountLemmas.{changed_at-length, charged_there}
 use Rattle.bq_simulate.proofs.InAllLemmas.{in_all-less, in_all-no_more, sum-changed, sum-no_more}

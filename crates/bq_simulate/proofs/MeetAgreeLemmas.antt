@@ -34,7 +34,7 @@ use Rattle.bq_workload.specs.Accounts.{Accounts, accounts_charged, runner_charge
 use Rattle.bq_workload.specs.Dues.{next_multiple, size_at}
 use Rattle.bq_workload.specs.Kinds.{kind_count as count_of_kind}
 use Rattle.bq_workload.specs.TaskProgress.{advanced}
-use Rattle.bq_workload.proofs.AgreeLemmas.{some_or_none}
+use Rattle.bq_workload.proofs.ListLemmas.{some_or_none}
 use Rattle.bq_simulate.specs.declared.driver.Driver.{Driver}
 use Rattle.bq_simulate.specs.Actions.{acted, action_count, advanced_in, asked_by, next_action, woken_one_in}
 use Rattle.bq_simulate.specs.Agreement.{AgreesBut, AgreesWith, StandsAs, can_run, runner_at, state_at}

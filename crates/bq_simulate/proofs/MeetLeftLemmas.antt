@@ -37,7 +37,7 @@ use Rattle.bq_workload.specs.Lengths.{takes_time}
 use Rattle.bq_workload.specs.Next.{IsNextDue, comes_at}
 use Rattle.bq_workload.specs.Soundness.{first_flaw}
 use Rattle.bq_workload.specs.TaskProgress.{progress_woken}
-use Rattle.bq_workload.proofs.AgreeLemmas.{changed_at-here, some_or_none}
+use Rattle.bq_workload.proofs.ListLemmas.{changed_at-here, some_or_none}
 use Rattle.bq_core.proofs.MoveLemmas.{with_pulled-current}
 use Rattle.bq_simulate.specs.declared.driver.Driver.{Driver}
 use Rattle.bq_simulate.specs.Actions.{acted, asked_by, next_action}

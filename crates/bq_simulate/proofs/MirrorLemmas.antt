@@ -28,7 +28,7 @@ use Rattle.bq_workload.specs.declared.periods.Periods.{Periods}
 use Rattle.bq_workload.specs.Accounts.{Accounts, accounts_charged, runner_charged, is_same, occupied, of_processor, of_task, accounts_switched, taken_over}
 use Rattle.bq_workload.specs.TaskProgress.{moved_to, run_for}
 use Rattle.bq_workload.specs.Dues.{size_at}
-use Rattle.bq_workload.proofs.AgreedLemmas.{stood_before_change}
+use Rattle.bq_workload.proofs.ListLemmas.{stood_before_change}
 use Rattle.bq_simulate.specs.Agreement.{AgreesWith, HaveProcessors, IsSettled, Mirrors, RunsAs, StandsAs, runner_at, state_at}
 use Rattle.bq_simulate.proofs.AccountLemmas.{Reads}
 

@@ -34,7 +34,7 @@ use Rattle.bq_workload.specs.declared.progress.TaskProgress.{TaskProgress}
 use Rattle.bq_workload.specs.Kinds.{tasks_in}
 use Rattle.bq_workload.specs.Soundness.{IsFirstAllowed}
 use Rattle.bq_workload.specs.TaskProgress.{fresh_task}
-use Rattle.bq_workload.proofs.DueLemmas.{appended, appended_others, at-replicate}
+use Rattle.bq_workload.proofs.ListLemmas.{appended, appended_others, at-replicate}
 use Rattle.bq_simulate.specs.declared.driver.Driver.{Driver}
 use Rattle.bq_simulate.specs.Actions.{kind_start}
 use Rattle.bq_simulate.specs.Agreement.{AgreesWith, IsOnTime, ProcessorIsOnTime, RunsOnTime, TaskIsOnTime}

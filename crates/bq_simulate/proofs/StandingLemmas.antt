@@ -19,8 +19,7 @@ use Rattle.bq_workload.specs.Accounts.{Accounts, changed_at, accounts_charged, r
 use Rattle.bq_workload.specs.Kinds.{kind_count}
 use Rattle.bq_workload.specs.Soundness.{first_flaw}
 use Rattle.bq_workload.specs.TaskProgress.{fresh_task, moved_to, run_for, progress_woken}
-use Rattle.bq_workload.proofs.AgreeLemmas.{changed_at-here, changed_at-none, changed_at-others, some_or_none}
-use Rattle.bq_workload.proofs.DueLemmas.{appended, appended_others}
+use Rattle.bq_workload.proofs.ListLemmas.{appended, appended_others, changed_at-here, changed_at-none, changed_at-others, some_or_none}
 use Rattle.bq_simulate.specs.Actions.{IsTaskOfKind, acted, action_at, action_count, advanced_in, asked_by, next_action, kind_start, woken_one_in}
 use Rattle.bq_simulate.specs.Deeds.{Acts, Beats, Book, Happens, Joins, Looks, Misses, Reaches, Rings, after_act, after_answer, after_beat, after_event, after_look, drawn_with, task_added, length_taken}
 use Rattle.bq_simulate.specs.Drives.{count_entered, runs_now, task_pulled}

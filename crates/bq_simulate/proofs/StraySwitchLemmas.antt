@@ -13,7 +13,7 @@ use Rattle.bq_workload.specs.declared.periods.Periods.{Periods}
 use Rattle.bq_workload.specs.Accounts.{Accounts, accounts_charged, is_same, of_processor, accounts_switched, taken_over}
 use Rattle.bq_workload.specs.Next.{TaskRests, runs_at}
 use Rattle.bq_workload.specs.Strays.{HasNoNext, IsStrayCharge, IsStrayProcessor, IsStrayRun, IsStraySwitch, IsStrayTakeover}
-use Rattle.bq_workload.proofs.AgreeLemmas.{changed_at-here, changed_at-others, some_or_none}
+use Rattle.bq_workload.proofs.ListLemmas.{changed_at-here, changed_at-others, some_or_none}
 use Rattle.bq_simulate.specs.Agreement.{AgreesWith, IsOnTime, ProcessorIsOnTime, RunsOnTime, runner_at}
 use Rattle.bq_simulate.specs.AgreementLaws.{RunsAlone}
 use Rattle.bq_simulate.proofs.AccountLemmas.{Reads, charged_there, reads_charged, reads_switched, same_run}

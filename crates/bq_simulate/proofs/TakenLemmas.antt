@@ -40,7 +40,7 @@ use Rattle.bq_workload.specs.declared.progress.TaskState.{TaskState}
 use Rattle.bq_workload.specs.declared.processor_state.ProcessorState.{ProcessorState}
 use Rattle.bq_workload.specs.declared.periods.Periods.{Periods}
 use Rattle.bq_workload.specs.Accounts.{Accounts, grown, left_by, accounts_passed, shrunk, accounts_switched}
-use Rattle.bq_workload.proofs.AgreeLemmas.{changed_at-here, changed_at-others}
+use Rattle.bq_workload.proofs.ListLemmas.{changed_at-here, changed_at-others}
 use Rattle.bq_simulate.specs.Agreement.{AgreesBut, AgreesWith, HaveProcessors, RunsAs, StandsAs, can_run, runner_at, state_at}
 use Rattle.bq_simulate.specs.AgreementLaws.{BlocksAreTaken, DrawsAreTaken, InstallsAreTaken, PullsAreTaken, TicksAreTaken}
 use Rattle.bq_simulate.specs.Drives.{runs_now, task_pulled}

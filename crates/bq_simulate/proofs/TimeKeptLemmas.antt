@@ -19,8 +19,8 @@ use Rattle.bq_workload.specs.declared.periods.Periods.{Periods}
 use Rattle.bq_workload.specs.Accounts.{Accounts, beaten, changed_at, accounts_charged, runner_charged, idled, is_same, looked, occupied, of_processor, accounts_switched, taken_over}
 use Rattle.bq_workload.specs.Dues.{next_multiple}
 use Rattle.bq_workload.specs.TaskProgress.{fresh_task, lengthened, migrates_to, moved_to, run_for}
-use Rattle.bq_workload.proofs.AgreeLemmas.{changed_at-here, changed_at-others, some_or_none}
-use Rattle.bq_workload.proofs.AgreedLemmas.{both, charged-is, counted, since_now, stood_before_change}
+use Rattle.bq_workload.proofs.ListLemmas.{changed_at-here, changed_at-others, some_or_none, stood_before_change}
+use Rattle.bq_workload.proofs.ProcessorAgreesLemmas.{both, charged-is, counted, since_now}
 use Rattle.bq_simulate.specs.Agreement.{AgreesWith, IsOnTime, ProcessorIsOnTime, RunsOnTime, StandsAs, TaskIsOnTime, runner_at, state_at}
 use Rattle.bq_simulate.specs.AgreementLaws.{RunsAlone, StaysOnTime, TasksRunAlone}
 use Rattle.bq_simulate.specs.Deeds.{is_busy}

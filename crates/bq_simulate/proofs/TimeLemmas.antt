@@ -12,9 +12,9 @@ use Rattle.bq_workload.specs.declared.processor_state.ProcessorState.{ProcessorS
 use Rattle.bq_workload.specs.Accounts.{Accounts}
 use Rattle.bq_workload.specs.Dues.{phase_end, until}
 use Rattle.bq_workload.specs.Next.{IsNextDue, NothingComes, comes_at, phase_ends_at, rings_at}
-use Rattle.bq_workload.proofs.AgreeLemmas.{some_or_none}
-use Rattle.bq_workload.proofs.AgreedLemmas.{end-of, look-of, look_at, tick-of, tick_at}
-use Rattle.bq_workload.proofs.DueLemmas.{ring-of}
+use Rattle.bq_workload.proofs.ListLemmas.{some_or_none}
+use Rattle.bq_workload.proofs.ProcessorAgreesLemmas.{end-of, look-of, look_at, tick-of, tick_at}
+use Rattle.bq_workload.proofs.TaskAgreesLemmas.{ring-of}
 use Rattle.bq_simulate.specs.Agreement.{IsOnTime, ProcessorIsOnTime, RunsOnTime}
 use Rattle.bq_simulate.specs.AgreementLaws.{NothingIsMissed}
 use Rattle.bq_disc.specs.declared.clock.TheConstants.{LATEST}

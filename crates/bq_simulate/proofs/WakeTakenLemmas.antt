@@ -34,7 +34,7 @@ use Rattle.bq_workload.specs.declared.processor_state.ProcessorState.{ProcessorS
 use Rattle.bq_workload.specs.declared.periods.Periods.{Periods}
 use Rattle.bq_workload.specs.Accounts.{Accounts, accounts_entered, grown, of_task}
 use Rattle.bq_workload.specs.TaskProgress.{progress_woken}
-use Rattle.bq_workload.proofs.AgreeLemmas.{changed_at-here}
+use Rattle.bq_workload.proofs.ListLemmas.{changed_at-here}
 use Rattle.bq_simulate.specs.Agreement.{AgreesWith, HaveProcessors, Mirrors, StandsAs, state_at}
 use Rattle.bq_simulate.specs.AgreementLaws.{IsTaken, IsTakenIn, WakesAreTaken}
 use Rattle.bq_simulate.specs.Drives.{count_entered, placed_at, runs_now}

@@ -9,7 +9,7 @@ use Rattle.bq_workload.specs.Accounts.{Accounts, LooksAt, TicksAt, accounts_of, 
 use Rattle.bq_workload.specs.Dues.{next_multiple}
 use Rattle.bq_workload.specs.Next.{StaysAgreed}
 use Rattle.bq_workload.specs.Strays.{IsStrayBeat, IsStrayLook}
-use Rattle.bq_workload.proofs.AgreeLemmas.{some_or_none}
+use Rattle.bq_workload.proofs.ListLemmas.{some_or_none}
 use Rattle.bq_simulate.specs.declared.simulation.Simulation.{Simulation}
 use Rattle.bq_simulate.specs.Agreement.{IsOnTime, ProcessorIsOnTime}
 use Rattle.bq_simulate.specs.Deeds.{is_busy}

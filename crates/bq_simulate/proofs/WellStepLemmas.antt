@@ -23,7 +23,7 @@ use Rattle.bq_workload.specs.Accounts.{Accounts, accounts_of, accounts_entered, 
 use Rattle.bq_workload.specs.Dues.{size_at}
 use Rattle.bq_workload.specs.TaskProgress.{progress_woken as woken_now}
 use Rattle.bq_workload.specs.Strays.{HasNoNext, IsStrayEntry, IsStrayGrowth, IsStrayPass, IsStraySwitch, IsStrayWake}
-use Rattle.bq_workload.proofs.AgreeLemmas.{changed_at-others, some_or_none}
+use Rattle.bq_workload.proofs.ListLemmas.{changed_at-others, some_or_none}
 use Rattle.bq_simulate.specs.declared.drive_fault.DriveFault.{DriveFault}
 use Rattle.bq_simulate.specs.declared.drive_fault.DriveFault.TheVariants.{OutOfMemory}
 use Rattle.bq_simulate.specs.declared.driver.Driver.{Driver}

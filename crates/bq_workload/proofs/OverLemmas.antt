@@ -14,8 +14,8 @@ use Rattle.bq_workload.specs.Accounts.{Accounts, is_over, is_past, rests_past, r
 use Rattle.bq_workload.specs.TaskProgress.{keeps_phase, keeps_time, lacks_more, rings_past, sleeps_past}
 use Rattle.bq_workload.specs.Dues.{phase_end, until}
 use Rattle.bq_workload.specs.Next.{HasHome, HaveHomes, NothingComes, rings_at}
-use Rattle.bq_workload.proofs.AgreeLemmas.{some_or_none}
-use Rattle.bq_workload.proofs.AgreedLemmas.{end-of, look-of, tick-of}
+use Rattle.bq_workload.proofs.ListLemmas.{some_or_none}
+use Rattle.bq_workload.proofs.ProcessorAgreesLemmas.{end-of, look-of, tick-of}
 use Rattle.bq_disc.specs.declared.clock.TheConstants.{LATEST}
 
 -- what each passes, all pass

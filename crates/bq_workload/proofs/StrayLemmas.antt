@@ -9,8 +9,8 @@ use Rattle.bq_workload.specs.declared.roster.Roster.{Roster}
 use Rattle.bq_workload.specs.Accounts.{Accounts, accounts_of, accounts_charged, is_same}
 use Rattle.bq_workload.specs.Plans.{PlansNone, PlansRun, PlansSwitch, PlansUnless}
 use Rattle.bq_workload.specs.Strays.{IsStraySwitch, IsStrayTakeover}
-use Rattle.bq_workload.proofs.AgreeLemmas.{changed_at-here}
-use Rattle.bq_workload.proofs.AgreedLemmas.{charged-is, since_now}
+use Rattle.bq_workload.proofs.ListLemmas.{changed_at-here}
+use Rattle.bq_workload.proofs.ProcessorAgreesLemmas.{charged-is, since_now}
 
 -- a switch fails where another task is to run, or none, at a processor whose time is counted
 pub switched-astray : (p now : ℕ) (run next : Option ℕ) (l : ProcessorState) (old mid : Roster)

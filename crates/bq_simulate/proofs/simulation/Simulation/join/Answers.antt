@@ -5,7 +5,7 @@ use Rattle.bq_workload.specs.declared.progress.TaskProgress.{TaskProgress}
 use Rattle.bq_workload.specs.declared.roster.Roster.{Roster}
 use Rattle.bq_workload.specs.TaskProgress.{fresh_task}
 use Rattle.bq_workload.specs.Next.{StaysAgreed}
-use Rattle.bq_workload.proofs.DueLemmas.{added-agreed}
+use Rattle.bq_workload.proofs.RosterAgreesLemmas.{added-agreed}
 use Rattle.bq_simulate.proofs.DeedLemmas.{GoesOnUnreported-joins}
 use Rattle.bq_simulate.proofs.simulation.Simulation.join.Goals as goal
 

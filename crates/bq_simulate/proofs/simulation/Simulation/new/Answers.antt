@@ -1,6 +1,6 @@
 use Rattle.std.proofs.Common.{◌≤◌, ℕ, ap, sym, subst}
 use Rattle.bq_workload.specs.declared.periods.Periods.{Periods}
-use Rattle.bq_workload.proofs.DueLemmas.{opening-agreed}
+use Rattle.bq_workload.proofs.OpeningAgreesLemmas.{opening-agreed}
 use Rattle.bq_words.proofs.SizeLemmas.{processors_in-few}
 use Rattle.bq_simulate.proofs.simulation.Simulation.new.Goals as goal
 

@@ -1,6 +1,6 @@
 use Rattle.bq_workload.specs.declared.roster.Roster.{Roster}
-use Rattle.bq_workload.proofs.DueLemmas.{beaten-agreed}
 use Rattle.bq_workload.proofs.roster.Roster.beat.Goals as goal
+use Rattle.bq_workload.proofs.RosterAgreesLemmas.{beaten-agreed}
 
 pub returns-clause-agrees : goal.returns-clause-agrees
 returns-clause-agrees c =

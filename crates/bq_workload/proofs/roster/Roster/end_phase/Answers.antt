@@ -5,8 +5,8 @@ use Rattle.bq_workload.specs.declared.roster.Roster.{Roster}
 use Rattle.bq_workload.specs.Accounts.{Accounts, accounts_of}
 use Rattle.bq_workload.specs.Next.{QueueAgrees}
 use Rattle.bq_workload.specs.Strays.{NoneIsDone}
-use Rattle.bq_workload.proofs.DueLemmas.{done-agrees}
 use Rattle.bq_workload.proofs.roster.Roster.end_phase.Goals as goal
+use Rattle.bq_workload.proofs.TaskAgreesLemmas.{done-agrees}
 
 pub returns-clause-agrees : goal.returns-clause-agrees
 returns-clause-agrees c =

@@ -1,6 +1,6 @@
 use Rattle.bq_workload.specs.Accounts.{accounts_of}
-use Rattle.bq_workload.proofs.DueLemmas.{first-next, none-next}
 use Rattle.bq_workload.proofs.roster.Roster.first.Goals as goal
+use Rattle.bq_workload.proofs.NextDueLemmas.{first-next, none-next}
 
 pub returns-in-None-clause-next : goal.returns-in-None-clause-next
 returns-in-None-clause-next c =

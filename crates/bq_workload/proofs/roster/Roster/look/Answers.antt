@@ -1,6 +1,6 @@
 use Rattle.bq_workload.specs.declared.roster.Roster.{Roster}
-use Rattle.bq_workload.proofs.DueLemmas.{looked-agreed}
 use Rattle.bq_workload.proofs.roster.Roster.look.Goals as goal
+use Rattle.bq_workload.proofs.RosterAgreesLemmas.{looked-agreed}
 
 pub returns-clause-agrees : goal.returns-clause-agrees
 returns-clause-agrees c =

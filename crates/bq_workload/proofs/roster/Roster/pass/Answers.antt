@@ -1,7 +1,7 @@
 use Rattle.std.proofs.lemmas.Result.{on_ok_weaker}
 use Rattle.bq_workload.specs.declared.roster.Roster.{Roster}
-use Rattle.bq_workload.proofs.DueLemmas.{grown-agreed, shrunk-agreed}
 use Rattle.bq_workload.proofs.roster.Roster.pass.Goals as goal
+use Rattle.bq_workload.proofs.RosterAgreesLemmas.{grown-agreed, shrunk-agreed}
 
 pub returns-clause-agrees : goal.returns-clause-agrees
 returns-clause-agrees c =

@@ -4,10 +4,10 @@ use Rattle.bq_workload.specs.declared.periods.Periods.{Periods}
 use Rattle.bq_workload.specs.declared.roster.Roster.{Roster}
 use Rattle.bq_workload.specs.Accounts.{accounts_of, is_same}
 use Rattle.bq_workload.specs.Next.{QueueAgrees}
-use Rattle.bq_workload.proofs.AgreedLemmas.{idled-agrees, started-agrees}
-use Rattle.bq_workload.proofs.DueLemmas.{both-ok, charged-agreed}
 use Rattle.bq_workload.proofs.StrayLemmas.{idled-plans, switched-astray}
 use Rattle.bq_workload.proofs.roster.Roster.switch.Goals as goal
+use Rattle.bq_workload.proofs.ProcessorAgreesLemmas.{idled-agrees, started-agrees}
+use Rattle.bq_workload.proofs.RosterAgreesLemmas.{both-ok, charged-agreed}
 
 pub returns-in-Some-clause-agrees : goal.returns-in-Some-clause-agrees
 returns-in-Some-clause-agrees c =

@@ -7,8 +7,8 @@ use Rattle.bq_workload.specs.declared.roster.Roster.{Roster}
 use Rattle.bq_workload.specs.Accounts.{accounts_of}
 use Rattle.bq_workload.specs.Next.{QueueAgrees}
 use Rattle.bq_workload.specs.Plans.{PlansProgress}
-use Rattle.bq_workload.proofs.DueLemmas.{taken_up-agrees}
 use Rattle.bq_workload.proofs.roster.Roster.take_up.Goals as goal
+use Rattle.bq_workload.proofs.TaskAgreesLemmas.{taken_up-agrees}
 
 pub returns-clause-agrees : goal.returns-clause-agrees
 returns-clause-agrees c =

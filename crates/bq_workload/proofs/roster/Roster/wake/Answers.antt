@@ -4,8 +4,9 @@ use Rattle.bq_workload.specs.declared.roster.Roster.{Roster}
 use Rattle.bq_workload.specs.Accounts.{accounts_of, of_task}
 use Rattle.bq_workload.specs.TaskProgress.{progress_woken}
 use Rattle.bq_workload.specs.Next.{QueueAgrees}
-use Rattle.bq_workload.proofs.DueLemmas.{same-accounts, woken-agrees}
 use Rattle.bq_workload.proofs.roster.Roster.wake.Goals as goal
+use Rattle.bq_workload.proofs.RosterAgreesLemmas.{same-accounts}
+use Rattle.bq_workload.proofs.TaskAgreesLemmas.{woken-agrees}
 
 pub returns-clause-agrees : goal.returns-clause-agrees
 returns-clause-agrees c h =

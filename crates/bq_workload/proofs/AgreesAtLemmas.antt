@@ -1,69 +1,19 @@
 -- An event queue that agrees with the accounts, thing by thing.
-use Rattle.std.proofs.Common.{◌≡◌, ◌≢◌, ℕ, zero, suc, ◌<◌, ◌⊎◌, inl, inr, Bool, false, List, [], ◌∷◌, Option, Some, None, refl, sym, ap, ◌∙◌}
-use Rattle.std.specs.Prelude.{option_and_then, slice_get, slice_set}
+use Rattle.std.proofs.Common.{◌≡◌, ℕ, ◌<◌, inl, inr, Bool, false, List, Option, Some, None, refl, sym, ap, ◌∙◌}
+use Rattle.std.specs.Prelude.{option_and_then, slice_get}
 use Rattle.std.specs.Option.{option_map_or}
-use Rattle.std.proofs.lemmas.Bool.{cases_eq, true≢false, eq-eqb}
-use Rattle.std.proofs.lemmas.Option.{none-some, same_Some}
+use Rattle.std.proofs.lemmas.Bool.{true≢false, eq-eqb}
+use Rattle.std.proofs.lemmas.Option.{same_Some}
 use Rattle.bq_workload.specs.declared.progress.TaskProgress.{TaskProgress}
 use Rattle.bq_workload.specs.declared.due.Due.{Due}
 use Rattle.bq_workload.specs.declared.due.Due.TheVariants.{End}
 use Rattle.bq_workload.specs.declared.processor_state.ProcessorState.{ProcessorState}
-use Rattle.bq_workload.specs.Accounts.{Accounts, changed_at, is_same}
+use Rattle.bq_workload.specs.Accounts.{Accounts, is_same}
 use Rattle.bq_workload.specs.Dues.{IsDropped, IsDue, IsPlanned, phase_end, due_rank, until}
 use Rattle.bq_workload.specs.Minima.{at_rank, due_number}
 use Rattle.bq_workload.specs.Next.{AgreesAt, HasHome, HaveHomes, TaskRests, comes_at, phase_ends_at, runs_at}
+use Rattle.bq_workload.proofs.ListLemmas.{some_or_none}
 use Rattle.bq_disc.specs.declared.limits.TheConstants.{PROCESSORS}
-
--- a write to one place leaves the others
-pub slice_get-set_other : {A : Type 0} (xs : List A) (n k : ℕ) (x : A) → k ≢ n → slice_get (slice_set xs n x) k ≡ slice_get xs k
-slice_get-set_other [] n k x h = refl
-slice_get-set_other (y ∷ ys) zero zero x h = absurd (h refl)
-slice_get-set_other (y ∷ ys) zero (suc k) x h = refl
-slice_get-set_other (y ∷ ys) (suc n) zero x h = refl
-slice_get-set_other (y ∷ ys) (suc n) (suc k) x h = slice_get-set_other ys n k x (λ e. h (ap suc e))
-
--- what is written at a place stands there
-pub slice_get-set_here : {A : Type 0} (xs : List A) (n : ℕ) (x y : A) → slice_get xs n ≡ Some y → slice_get (slice_set xs n x) n ≡ Some x
-slice_get-set_here [] n x y h = absurd (none-some y h)
-slice_get-set_here (z ∷ zs) zero x y h = refl
-slice_get-set_here (z ∷ zs) (suc n) x y h = slice_get-set_here zs n x y h
-
--- a change at one place leaves the others
-pub changed_at-others : {A : Type 0} (f : A → A) (xs : List A) (n k : ℕ) → k ≢ n → slice_get (changed_at f xs n) k ≡ slice_get xs k
-changed_at-others {A} f xs n k h =
-    elim (slice_get xs n) as (λ (o : Option A). slice_get (option_map_or (λ (x : A). slice_set xs n (f x)) o xs) k ≡ slice_get xs k)
-    [ None ↦ refl | Some x ↦ slice_get-set_other xs n k (f x) h ]
-
--- what is at a place is changed
-pub changed_at-here : {A : Type 0} (f : A → A) (xs : List A) (n : ℕ) (x : A)
-    → slice_get xs n ≡ Some x → slice_get (changed_at f xs n) n ≡ Some (f x)
-changed_at-here {A} f xs n x h =
-    ap (λ (o : Option A). slice_get (option_map_or (λ (y : A). slice_set xs n (f y)) o xs) n) h
-    ∙ slice_get-set_here xs n (f x) x h
-
--- where nothing stands at a place nothing is changed
-pub changed_at-none : {A : Type 0} (f : A → A) (xs : List A) (n : ℕ) → slice_get xs n ≡ None → changed_at f xs n ≡ xs
-changed_at-none {A} f xs n h = ap (λ (o : Option A). option_map_or (λ (y : A). slice_set xs n (f y)) o xs) h
-
--- there is something or nothing
-pub some_or_none : {A : Type 0} (o : Option A) → (o ≡ None) ⊎ ((x : A) × (o ≡ Some x))
-some_or_none None = inl refl
-some_or_none (Some x) = inr (x, refl)
-
--- what a change leaves as it is can be read as before
-pub changed_at-read : {A B : Type 0} (f : A → A) (v : A → Option B)
-    → ((x : A) → v (f x) ≡ v x)
-    → (xs : List A) (n k : ℕ) → option_and_then v (slice_get (changed_at f xs n) k) ≡ option_and_then v (slice_get xs k)
-changed_at-read {A} {B} f v same xs n k = elim (cases_eq k n) [
-  | inr other ↦ ap (λ (o : Option A). option_and_then v o) (changed_at-others f xs n k other)
-  | inl here ↦ elim (some_or_none (slice_get xs n)) [
-    | inl none ↦ ap (λ (ys : List A). option_and_then v (slice_get ys k)) (changed_at-none f xs n none)
-    | inr (x, is) ↦
-        let new : slice_get (changed_at f xs n) k ≡ Some (f x) = ap (slice_get (changed_at f xs n)) here ∙ changed_at-here f xs n x is in
-        let old : slice_get xs k ≡ Some x = ap (slice_get xs) here ∙ is in
-        ap (λ (o : Option A). option_and_then v o) new ∙ same x ∙ sym (ap (λ (o : Option A). option_and_then v o) old)
-  ]
-]
 
 -- what comes when it came, and of whose rank the event queue says what it said
 pub agrees_if_kept : (end : ℕ) (a b : Accounts) (x y : List ℕ) (due : Due)

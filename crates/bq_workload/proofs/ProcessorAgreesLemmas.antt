@@ -1,23 +1,24 @@
--- Changes of the accounts after which the event queue agrees with them.
-use Rattle.std.proofs.Common.{◌≡◌, ◌≢◌, ℕ, ◌+◌, ◌-◌, ◌<◌, ◌⊎◌, inl, inr, List, Option, Some, None, refl, sym, ap, ◌∙◌, subst, arith}
-use Rattle.std.specs.Prelude.{option_and_then, option_map, slice_get, slice_set, unwrap_or}
+-- Changes of one processor after which the event queue agrees with the accounts: its time is counted, a task begins to run, none runs any more.
+use Rattle.std.proofs.Common.{◌≡◌, ◌≢◌, ℕ, ◌+◌, ◌-◌, ◌<◌, inl, inr, List, Option, Some, None, refl, sym, ap, ◌∙◌, subst, arith}
+use Rattle.std.specs.Prelude.{option_and_then, slice_get, option_map, unwrap_or}
 use Rattle.std.specs.Option.{option_map_or}
 use Rattle.std.proofs.lemmas.Bool.{cases_eq}
 use Rattle.std.proofs.lemmas.Option.{none-some, same_Some}
-use Rattle.bq_workload.specs.declared.due.TheConstants.{FIRST_LOOK, FIRST_TICK, FIRST_WAKE}
-use Rattle.bq_workload.specs.declared.event_queue.TheConstants.{LEAVES}
 use Rattle.bq_workload.specs.declared.progress.TaskProgress.{TaskProgress}
 use Rattle.bq_workload.specs.declared.due.Due.{Due}
 use Rattle.bq_workload.specs.declared.due.Due.TheVariants.{End, Wake, Tick, Look}
 use Rattle.bq_workload.specs.declared.processor_state.ProcessorState.{ProcessorState}
+use Rattle.bq_workload.specs.declared.due.TheConstants.{FIRST_LOOK, FIRST_TICK, FIRST_WAKE}
+use Rattle.bq_workload.specs.declared.event_queue.TheConstants.{LEAVES}
 use Rattle.bq_workload.specs.declared.periods.Periods.{Periods}
 use Rattle.bq_workload.specs.Accounts.{Accounts, changed_at, accounts_charged, runner_charged, idled, occupied, of_processor, taken_over}
-use Rattle.bq_workload.specs.TaskProgress.{moved_to, run_for}
-use Rattle.bq_workload.specs.Dues.{IsDue, phase_end, next_multiple, due_rank, until}
+use Rattle.bq_workload.specs.Dues.{IsDue, phase_end, due_rank, until, next_multiple}
 use Rattle.bq_workload.specs.Minima.{at_rank}
-use Rattle.bq_workload.specs.Next.{QueueAgrees, AgreesAt, HasHome, HaveHomes, TaskRests, comes_at, phase_ends_at, rings_at}
+use Rattle.bq_workload.specs.Next.{AgreesAt, HasHome, HaveHomes, TaskRests, comes_at, phase_ends_at, QueueAgrees, rings_at}
+use Rattle.bq_workload.specs.TaskProgress.{moved_to, run_for}
 use Rattle.bq_workload.specs.Plans.{PlansLook, PlansNone, PlansTask, PlansTick}
-use Rattle.bq_workload.proofs.AgreeLemmas.{changed_at-here, changed_at-others, changed_at-read, agrees_if_dropped, agrees_if_kept, kept-end, kept-home, resting_runs_nowhere, one-home, agrees_if_planned, some_or_none}
+use Rattle.bq_workload.proofs.ListLemmas.{some_or_none, changed_at-others, changed_at-here, changed_at-read, stood_before_change}
+use Rattle.bq_workload.proofs.AgreesAtLemmas.{agrees_if_kept, agrees_if_planned, agrees_if_dropped, kept-end, kept-home, one-home, resting_runs_nowhere}
 use Rattle.bq_disc.specs.declared.limits.TheConstants.{PROCESSORS}
 
 -- accounts of these tasks' progress and processors
@@ -124,23 +125,6 @@ after-change end p a b x y h c =
       all = with_end end p b y (record { ends = ends; wakes = wakes; ticks = ticks; looks = looks; homes = homes }) c.ends;
       homes = homes;
     }
-
--- what stood at a place before one of them was changed
-pub stood_before_change : {A : Type 0} (f : A → A) (xs : List A) (n k : ℕ) (y : A)
-    → slice_get (changed_at f xs n) k ≡ Some y → (x : A) × (slice_get xs k ≡ Some x) × ((y ≡ x) ⊎ (y ≡ f x))
-stood_before_change {A} f xs n k y at = elim (cases_eq k n) [
-  | inr other ↦ (y, sym (changed_at-others f xs n k other) ∙ at, inl refl)
-  | inl here ↦ elim (some_or_none (slice_get xs n)) [
-    | inl none ↦
-        absurd (none-some y (sym (ap (slice_get xs) here ∙ none)
-        ∙ sym (ap (λ (o : Option A). slice_get (option_map_or (λ (z : A). slice_set xs n (f z)) o xs) k) none) ∙ at))
-    | inr (x, is) ↦ (
-      x,
-      ap (slice_get xs) here ∙ is,
-      inr (same_Some y (f x) (sym at ∙ ap (slice_get (changed_at f xs n)) here ∙ changed_at-here f xs n x is)),
-    )
-  ]
-]
 
 -- the home of a task's progress
 abbrev home_of : TaskProgress → Option ℕ
