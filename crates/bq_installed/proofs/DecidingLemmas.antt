@@ -56,8 +56,3 @@ and_field {A} {B} {E} {F} h k x y =
     Decides-like (E x.0 y.0 && F x.1 y.1) (λ (p : (x.0 ≡ y.0) × (x.1 ≡ y.1)). λ i. (p.0 i, p.1 i))
     (λ e. (ap (λ (p : A × B). p.0) e, ap (λ (p : A × B). p.1) e))
     (Decides-and (E x.0 y.0) (F x.1 y.1) (h x.0 y.0) (k x.1 y.1))
-
-infixr 5 ◌&then◌
--- one variant before others
-abbrev pub ◌&then◌ : {A B : Type 0} → A → B → A × B
-a &then b = (a, b)

@@ -22,7 +22,8 @@ use Rattle.bq_insn.specs.contracts.Source as source
 use Rattle.bq_insn.specs.contracts.Width as width
 use Rattle.bq_insn.specs.contracts.InsnPartialEq.TheImpl as same_insn
 use Rattle.bq_insn.specs.contracts.SourcePartialEq.TheImpl as same_source
-use Rattle.bq_installed.proofs.DecidingLemmas.{by_decides, bare_decides, no_field, last_field, and_field, ◌&then◌}
+use Rattle.bq_verify.proofs.EachSlotLemmas.{◌then◌}
+use Rattle.bq_installed.proofs.DecidingLemmas.{by_decides, bare_decides, no_field, last_field, and_field}
 
 -- `==` on each type of an instruction's fields tells whether two values are the same:
 bits_decides : (a b : Bits) → Decides (sameb bits.the_type a b) (a ≡ b)
@@ -45,25 +46,25 @@ width_decides = bare_decides width.the_type tt
 
 source_decides : (a b : Source) → Decides (same_source.eq-value.it a b) (a ≡ b)
 source_decides =
-    by_decides source.enum _ (last_field Decides-int_eq &then last_field Decides-eqb &then tt)
+    by_decides source.enum _ (last_field Decides-int_eq then last_field Decides-eqb then tt)
 
 -- `==` tells whether two instructions are the same: for each variant, by its fields in their order
 pub insn_decides : (a b : Insn) → Decides (same_insn.eq-value.it a b) (a ≡ b)
 insn_decides =
     by_decides insn.enum _ (and_field width_decides
     (and_field operation_decides (and_field Decides-eqb (last_field source_decides)))
-    &then and_field width_decides (and_field bits_decides (and_field Decides-eqb (last_field Decides-eqb)))
-    &then and_field width_decides (last_field Decides-eqb)
-    &then and_field order_decides (and_field bits_decides (last_field Decides-eqb))
-    &then and_field size_decides (and_field booleans_Decides (and_field Decides-eqb (and_field Decides-eqb (last_field Decides-int_eq))))
-    &then and_field size_decides (and_field Decides-eqb (and_field Decides-int_eq (last_field Decides-int_eq)))
-    &then and_field size_decides (and_field Decides-eqb (and_field Decides-int_eq (last_field Decides-eqb)))
-    &then and_field Decides-eqb (last_field Decides-eqb)
-    &then and_field Decides-eqb (last_field Decides-int_eq)
-    &then last_field Decides-int_eq
-    &then last_field Decides-int_eq
-    &then and_field width_decides
+    then and_field width_decides (and_field bits_decides (and_field Decides-eqb (last_field Decides-eqb)))
+    then and_field width_decides (last_field Decides-eqb)
+    then and_field order_decides (and_field bits_decides (last_field Decides-eqb))
+    then and_field size_decides (and_field booleans_Decides (and_field Decides-eqb (and_field Decides-eqb (last_field Decides-int_eq))))
+    then and_field size_decides (and_field Decides-eqb (and_field Decides-int_eq (last_field Decides-int_eq)))
+    then and_field size_decides (and_field Decides-eqb (and_field Decides-int_eq (last_field Decides-eqb)))
+    then and_field Decides-eqb (last_field Decides-eqb)
+    then and_field Decides-eqb (last_field Decides-int_eq)
+    then last_field Decides-int_eq
+    then last_field Decides-int_eq
+    then and_field width_decides
     (and_field condition_decides (and_field Decides-eqb (and_field source_decides (last_field Decides-int_eq))))
-    &then last_field Decides-int_eq
-    &then no_field
-    &then tt)
+    then last_field Decides-int_eq
+    then no_field
+    then tt)

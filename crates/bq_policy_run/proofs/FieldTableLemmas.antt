@@ -5,6 +5,7 @@ use Rattle.std.specs.Str.{bytes_eq}
 use Rattle.bq_disc.specs.Tasks.{Task, id_of}
 use Rattle.bq_hooks.specs.Contexts.{PlaceFacts, PreemptFacts, PullFacts, place_header, place_bytes_below, preempt_bytes, pull_header, pull_bytes, task_bytes, u32_bytes, u64_bytes, as_number, nobody, or_nobody}
 use Rattle.bq_hooks.specs.declared.hook.Hook.TheVariants.{Place, Preempt, Pull}
+use Rattle.bq_verify.proofs.EachSlotLemmas.{◌then◌}
 use Rattle.bq_policy_run.specs.declared.fields.FieldWidth.{FieldWidth}
 use Rattle.bq_policy_run.specs.Fields.{NamedField, bytes_in, fields_of, once, row_named, several}
 use Rattle.bq_policy_run.specs.FieldsLaw.{FieldHolds, Meaning, each, meaning_named, one, place_meanings, preempt_meanings, pull_meanings}
@@ -87,11 +88,6 @@ several_match context end name at width apart count shown bytes many much within
       within = within;
       holds = holds;
     }
-
--- one row, and those behind it
-infixr 5 ◌then◌
-◌then◌ : {A B : Type 0} → A → B → A × B
-◌then◌ a b = (a, b)
 
 -- the parts of the task that the rule would choose, and the own choice behind them
 choice_read : (o : Option Task) (own rest : List ℕ) →

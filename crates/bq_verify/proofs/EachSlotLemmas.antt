@@ -40,7 +40,7 @@ pub each_slot : (program : List (Option Insn)) (P : ℕ → Insn → Type 0)
 each_slot program P all k insn here = let e : 0 + k ≡ k = omega arith in subst (λ (m : ℕ). P m insn) e (at_slot P 0 program all k insn here)
 
 infixr 5 ◌then◌
--- what is true of one instruction, and of those behind it
+-- what is true of one thing of a list, and of those behind it
 pub ◌then◌ : {A B : Type 0} → A → B → A × B
 ◌then◌ a b = (a, b)
 
