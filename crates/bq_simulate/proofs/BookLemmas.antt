@@ -14,7 +14,7 @@ use Rattle.bq_simulate.specs.Deeds.{Acts, Beats, Book, Deed, Happens, Joins, Dee
 use Rattle.bq_simulate.specs.Simulations.{GoesByDeeds, GoesOnBy, GoesOnFromBook, book_of}
 use Rattle.bq_simulate.specs.Steps.{AreAllMet, DeedsMeet}
 use Rattle.bq_simulate.proofs.DeedLemmas.{GoesByDeeds-join}
-use Rattle.bq_simulate.proofs.StepLemmas.{AreMet-more}
+use Rattle.bq_simulate.proofs.DueInOrderLemmas.{AreMet-more}
 
 -- what is kept follows from the deeds
 pub kept-by : (kinds : List TaskKind) (seed : ℕ) (periods : Periods) (d e : Driver) (a b : Book) (xs : List Deed)

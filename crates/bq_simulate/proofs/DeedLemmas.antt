@@ -25,8 +25,8 @@ use Rattle.bq_simulate.specs.Actions.{IsTaskOfKind, acted, aim_of, asked_by, fir
 use Rattle.bq_simulate.specs.Deeds.{Acts, Beats, Book, Deed, Happens, MayCome, IsWoken, Joins, DeedsLead, Looks, Misses, Reaches, Rings, after_act, after_answer, after_beat, after_event, after_look, drawn_with, events_of, is_busy, task_added, length_taken}
 use Rattle.bq_simulate.specs.Simulations.{KeepsAsManyFirsts, GoesOnForAnyKinds, DrawsFor, GoesByDeeds, HasDrawn, HasFirsts, GoesOnBy, OnlyPlansOrCounts, GoesOnUnreported, SimulationStays, book_of, streams_after}
 use Rattle.bq_simulate.specs.Steps.{AreJustEvents, AreWake, FollowsAction, IsAct, IsJoin}
-use Rattle.bq_simulate.proofs.KindLemmas.{firsts-pushed}
 use Rattle.bq_simulate.proofs.StreamLemmas.{gives_if_asked, opened-streams}
+use Rattle.bq_simulate.proofs.TasksOfKindLemmas.{firsts-pushed}
 
 -- where some deeds lead to a state, and others lead on from it, all of them lead from the first state to the last
 pub DeedsLead-append : (kinds : List TaskKind) (seed : ℕ) (periods : Periods) (d m e : Driver) (a b c : Book)

@@ -1,4 +1,4 @@
--- The laws of the lines.
+-- The laws of the lines: the line that asks for an event or for a machine is one whole line, and is read as exactly that.
 use Rattle.std.proofs.Common.{◌≡◌, ℕ, ◌-◌, List, [], ◌∷◌, length, refl, ◌∙◌, true, false, eqb, arith, zero, suc, slice_index}
 use Rattle.std.specs.List.{AllByRecursion, list_all}
 use Rattle.std.proofs.lemmas.Bool.{and_parts}
@@ -7,8 +7,8 @@ use Rattle.std.proofs.lemmas.List.Elements.{All-from_recursion}
 use Rattle.bq_lines.specs.Bytes.{is_allowed}
 use Rattle.bq_simulate.specs.Spelling.{asking_line, event_words, machine_line}
 use Rattle.bq_simulate.specs.Laws.{AreLines, EventsAreRead, MachinesAreRead, IsWholeLine}
+use Rattle.bq_simulate.proofs.EventWordLemmas.{reading-spaced, plain_words, room_words, words_read, machine_words, plain_machine, room_machine, machine_reads}
 use Rattle.bq_simulate.proofs.PlainWordLemmas.{allowed-spaced}
-use Rattle.bq_simulate.proofs.ReadingLemmas.{reading-spaced, plain_words, room_words, words_read, machine_words, plain_machine, room_machine, machine_reads}
 
 -- the line that asks for an event is read as exactly that
 pub events_are_read : EventsAreRead

@@ -42,9 +42,9 @@ use Rattle.bq_simulate.specs.AgreementLaws.{BookAgrees, MeetingsAgree}
 use Rattle.bq_simulate.specs.Deeds.{Book, Deed, Happens, IsWokenFrom, DeedsLead, after_act, after_answer, after_beat, after_look, length_taken}
 use Rattle.bq_simulate.specs.Drives.{DrivesEvent, placed_at}
 use Rattle.bq_simulate.specs.Steps.{AreJustEvents, AreWake, FollowsAction, DeedsMeet, WakesTask, pulls_of}
-use Rattle.bq_simulate.proofs.AccountLemmas.{changed_at-length, read_changed, read_kept, reads_charged, state_others}
+use Rattle.bq_simulate.proofs.AccountsReadLemmas.{changed_at-length, read_changed, read_kept, reads_charged, state_others}
+use Rattle.bq_simulate.proofs.EventTakenLemmas.{blocks_are_taken, pulls_are_taken, ticks_are_taken}
 use Rattle.bq_simulate.proofs.MirrorLemmas.{homes_charged, homes_task, tasks_kept}
-use Rattle.bq_simulate.proofs.TakenLemmas.{blocks_are_taken, pulls_are_taken, ticks_are_taken}
 use Rattle.bq_simulate.proofs.WakeTakenLemmas.{wakes_are_taken}
 
 -- what an event that is done does to the world

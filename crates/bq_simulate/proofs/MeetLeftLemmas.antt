@@ -50,16 +50,16 @@ use Rattle.bq_simulate.specs.Kept.{IsKept, StandsAtAction}
 use Rattle.bq_simulate.specs.KeptLaws.{DeedsLeadIn}
 use Rattle.bq_simulate.specs.Simulations.{periods_of}
 use Rattle.bq_simulate.specs.Steps.{AreJustEvents, AreWake, FollowsAction, DeedsMeet, WakesTask, pulls_of}
-use Rattle.bq_simulate.proofs.AccountLemmas.{charged_there, read_kept, same_run}
-use Rattle.bq_simulate.proofs.ActLeftLemmas.{act-takes, at-most, stands-at}
-use Rattle.bq_simulate.proofs.InAllLemmas.{sum-most}
-use Rattle.bq_simulate.proofs.LeftLemmas.{at-most-one, charged-left, multiple-past, passed-left, processor-left, sized-left, switched-kept, switched-left, switched-one, task-takes}
+use Rattle.bq_simulate.proofs.AccountsReadLemmas.{charged_there, read_kept, same_run}
+use Rattle.bq_simulate.proofs.ActionLeftLemmas.{act-takes, at-most, stands-at}
+use Rattle.bq_simulate.proofs.EventTakenLemmas.{current_id}
 use Rattle.bq_simulate.proofs.MeetAgreeLemmas.{agrees_charged, step_of, world_of}
-use Rattle.bq_simulate.proofs.MeetTimeLemmas.{sleeper_rests}
-use Rattle.bq_simulate.proofs.SoundKindLemmas.{IsSoundKind, sound_kind, sound_times}
-use Rattle.bq_simulate.proofs.StandingLemmas.{AllStand, charged_keeps, standing_of_places}
-use Rattle.bq_simulate.proofs.TakenLemmas.{current_id}
-use Rattle.bq_simulate.proofs.TimeKeptLemmas.{run_of, tasks_run_alone}
+use Rattle.bq_simulate.proofs.MeetOnTimeLemmas.{sleeper_rests}
+use Rattle.bq_simulate.proofs.SoundWorkloadLemmas.{IsSoundKind, sound_kind, sound_times}
+use Rattle.bq_simulate.proofs.StandsAtActionLemmas.{AllStand, charged_keeps, standing_of_places}
+use Rattle.bq_simulate.proofs.StaysOnTimeLemmas.{run_of, tasks_run_alone}
+use Rattle.bq_simulate.proofs.StepsLeftLemmas.{at-most-one, charged-left, multiple-past, passed-left, processor-left, sized-left, switched-kept, switched-left, switched-one, task-takes}
+use Rattle.bq_simulate.proofs.SumOverAllLemmas.{sum-most}
 use Rattle.bq_disc.specs.declared.clock.TheConstants.{LATEST}
 
 -- where nothing is done no more is left

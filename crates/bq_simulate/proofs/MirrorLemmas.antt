@@ -30,7 +30,7 @@ use Rattle.bq_workload.specs.TaskProgress.{moved_to, run_for}
 use Rattle.bq_workload.specs.Dues.{size_at}
 use Rattle.bq_workload.proofs.ListLemmas.{stood_before_change}
 use Rattle.bq_simulate.specs.Agreement.{AgreesWith, HaveProcessors, IsSettled, Mirrors, RunsAs, StandsAs, runner_at, state_at}
-use Rattle.bq_simulate.proofs.AccountLemmas.{Reads}
+use Rattle.bq_simulate.proofs.AccountsReadLemmas.{Reads}
 
 -- how many some tasks are
 abbrev pub each : ℕ → ℕ → ℕ

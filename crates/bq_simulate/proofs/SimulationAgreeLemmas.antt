@@ -44,11 +44,11 @@ use Rattle.bq_simulate.specs.Drives.{DrivesEvent, Starts}
 use Rattle.bq_simulate.specs.GoingWell.{IsOpening}
 use Rattle.bq_simulate.specs.Simulations.{IsSimulation, Proceeds, opening_book, periods_of}
 use Rattle.bq_simulate.specs.Steps.{AreAdmitted, AreAllAdmitted, AreInstalled, AreJustEvents, Opens, MetDue, all_processors, deeds_of}
-use Rattle.bq_simulate.proofs.AccountLemmas.{read}
+use Rattle.bq_simulate.proofs.AccountsReadLemmas.{read}
 use Rattle.bq_simulate.proofs.AdmissionTakenLemmas.{admit_kept}
+use Rattle.bq_simulate.proofs.EventTakenLemmas.{draws_are_taken, install_kept}
 use Rattle.bq_simulate.proofs.MeetAgreeLemmas.{meetings_agree, step_of, tick_agrees, world_of}
-use Rattle.bq_simulate.proofs.TakenLemmas.{draws_are_taken, install_kept}
-use Rattle.bq_simulate.proofs.TimeKeptLemmas.{carried}
+use Rattle.bq_simulate.proofs.StaysOnTimeLemmas.{carried}
 
 -- deeds that were done in two parts
 pub record Parted (kinds : List TaskKind) (seed : ℕ) (periods : Periods) (d : Driver) (b : Book)

@@ -38,9 +38,9 @@ use Rattle.bq_workload.proofs.ListLemmas.{changed_at-here}
 use Rattle.bq_simulate.specs.Agreement.{AgreesWith, HaveProcessors, Mirrors, StandsAs, state_at}
 use Rattle.bq_simulate.specs.AgreementLaws.{IsTaken, IsTakenIn, WakesAreTaken}
 use Rattle.bq_simulate.specs.Drives.{count_entered, placed_at, runs_now}
-use Rattle.bq_simulate.proofs.AccountLemmas.{Reads, reads_grown, reads_join, reads_same, reads_switched, state_others, state_woken}
+use Rattle.bq_simulate.proofs.AccountsReadLemmas.{Reads, reads_grown, reads_join, reads_same, reads_switched, state_others, state_woken}
+use Rattle.bq_simulate.proofs.EventTakenLemmas.{current_id}
 use Rattle.bq_simulate.proofs.MirrorLemmas.{agree_after, each, homes_switched, homes_task, runs_written, run_there, size_there, state_there, tally_length, tasks_kept, there}
-use Rattle.bq_simulate.proofs.TakenLemmas.{current_id}
 
 -- a wake has begun: one hand holds a task, and else none is on its way
 pub record IsBegun (from : ℕ) (w : World) (a : Accounts) : Type 0 where

@@ -1,4 +1,4 @@
-use Rattle.bq_simulate.proofs.FaultLemmas as Faults
+use Rattle.bq_simulate.proofs.EventFaultLemmas as Faults
 use Rattle.bq_simulate.proofs.agreement_laws.answers_fit.Goals as goal
 
 pub returns : goal.returns

@@ -1,4 +1,4 @@
-use Rattle.bq_simulate.proofs.MeetTimeLemmas as Times
+use Rattle.bq_simulate.proofs.MeetOnTimeLemmas as Times
 use Rattle.bq_simulate.proofs.agreement_laws.meetings_are_on_time.Goals as goal
 
 pub returns : goal.returns

@@ -1,4 +1,4 @@
-use Rattle.bq_simulate.proofs.TimeLemmas as Times
+use Rattle.bq_simulate.proofs.NothingMissedLemmas as Times
 use Rattle.bq_simulate.proofs.agreement_laws.nothing_is_missed.Goals as goal
 
 pub returns : goal.returns

@@ -1,4 +1,4 @@
-use Rattle.bq_simulate.proofs.TakenLemmas as Taken
+use Rattle.bq_simulate.proofs.EventTakenLemmas as Taken
 use Rattle.bq_simulate.proofs.agreement_laws.pulls_are_taken.Goals as goal
 
 pub returns : goal.returns

@@ -1,4 +1,4 @@
-use Rattle.bq_simulate.proofs.KeptLemmas as Kept
+use Rattle.bq_simulate.proofs.AllIsKeptLemmas as Kept
 use Rattle.bq_simulate.proofs.kept_laws.all_is_kept.Goals as goal
 
 pub returns : goal.returns

@@ -1,4 +1,4 @@
-use Rattle.bq_simulate.proofs.BoundLemmas as Bound
+use Rattle.bq_simulate.proofs.FewUntilEndLemmas as Bound
 use Rattle.bq_simulate.proofs.kept_laws.few_come_until_the_end.Goals as goal
 
 pub returns : goal.returns

@@ -2,9 +2,9 @@ use Rattle.std.proofs.Common.{inl, subst, sym, ◌∙◌}
 use Rattle.std.proofs.lemmas.Result.{on_ok_weaker}
 use Rattle.bq_simulate.specs.GoingWell.{EndsEarly}
 use Rattle.bq_simulate.specs.Simulations.{with_seed}
-use Rattle.bq_simulate.proofs.WholeLemmas.{IsNew, followed-of, too-long-of}
-use Rattle.bq_simulate.proofs.OpenWellLemmas.{starts-well}
-use Rattle.bq_simulate.proofs.WellLemmas.{bound-of-too_many_steps, err-both, err-by, wants-no-end}
+use Rattle.bq_simulate.proofs.GoesWellLemmas.{bound-of-too_many_steps, err-both, err-by, wants-no-end}
+use Rattle.bq_simulate.proofs.OpensWellLemmas.{starts-well}
+use Rattle.bq_simulate.proofs.WholeSimulationLemmas.{IsNew, followed-of, too-long-of}
 use Rattle.bq_simulate.proofs.whole_simulation.follow.Goals as goal
 
 pub returns-clause-reported : goal.returns-clause-reported

@@ -2,7 +2,7 @@
 use Rattle.std.proofs.Common.{Bool, subst, sym, ◌∙◌}
 use Rattle.bq_trace.specs.TraceEvents.{Gets}
 use Rattle.bq_simulate.specs.Simulations.{IsFollowed, with_seed}
-use Rattle.bq_simulate.proofs.WholeLemmas.{followed_whole}
+use Rattle.bq_simulate.proofs.WholeSimulationLemmas.{followed_whole}
 use Rattle.bq_simulate.proofs.whole_simulation.simulate_seed.Goals as goal
 
 pub returns-then-has_enough-clause-enough : goal.returns-then-has_enough-clause-enough

@@ -5,7 +5,7 @@ use Rattle.bq_simulate.specs.Actions.{aim_of}
 use Rattle.bq_simulate.specs.Deeds.{Deed}
 use Rattle.bq_simulate.specs.Steps.{FollowsAction, IsAct, DeedsMeet}
 use Rattle.bq_simulate.proofs.DeedLemmas.{GoesOnBy-join, GoesOnBy-unreported}
-use Rattle.bq_simulate.proofs.TakenUpLemmas.{can_follow}
+use Rattle.bq_simulate.proofs.NextActionLemmas.{can_follow}
 use Rattle.bq_simulate.proofs.simulation.Simulation.act.Goals as goal
 
 pub returns-clause-goes_on : goal.returns-clause-goes_on

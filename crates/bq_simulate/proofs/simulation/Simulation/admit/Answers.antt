@@ -8,11 +8,11 @@ use Rattle.bq_simulate.specs.Actions.{first_task_of}
 use Rattle.bq_simulate.specs.Deeds.{Deed}
 use Rattle.bq_simulate.specs.GoingWell.{OpensWell}
 use Rattle.bq_simulate.specs.Steps.{AreAdmitted, AreAllAdmitted, AreJustEvents}
-use Rattle.bq_simulate.proofs.AdmissionLemmas.{AreAllAdmitted-next}
+use Rattle.bq_simulate.proofs.AdmitInTurnLemmas.{AreAllAdmitted-next}
 use Rattle.bq_simulate.proofs.DeedLemmas.{GoesOnBy-join, GoesOnBy-same, GoesOnBy-unreported, GoesOnBy-weaker, OnlyPlansOrCounts-here}
-use Rattle.bq_simulate.proofs.KindLemmas.{first-more}
-use Rattle.bq_simulate.proofs.OpenWellLemmas.{begun-well, streams-there}
-use Rattle.bq_simulate.proofs.WellLemmas.{err-by}
+use Rattle.bq_simulate.proofs.GoesWellLemmas.{err-by}
+use Rattle.bq_simulate.proofs.OpensWellLemmas.{begun-well, streams-there}
+use Rattle.bq_simulate.proofs.TasksOfKindLemmas.{first-more}
 use Rattle.bq_simulate.proofs.simulation.Simulation.admit.Goals as goal
 
 pub kinds-init : goal.kinds-init

@@ -10,12 +10,12 @@ use Rattle.bq_simulate.specs.Actions.{first_task_of, kind_start}
 use Rattle.bq_simulate.specs.Deeds.{Deed}
 use Rattle.bq_simulate.specs.GoingWell.{OpensWell}
 use Rattle.bq_simulate.specs.Steps.{AreAdmitted, AreJustEvents, IsAdmission, IsJoin}
-use Rattle.bq_simulate.proofs.AdmissionLemmas.{AreAdmitted-more, admission-of}
+use Rattle.bq_simulate.proofs.AdmitInTurnLemmas.{AreAdmitted-more, admission-of}
 use Rattle.bq_simulate.proofs.DeedLemmas.{GoesOnBy-join, GoesOnBy-same, GoesOnBy-unreported, GoesOnBy-then, OnlyPlansOrCounts-here}
-use Rattle.bq_simulate.proofs.KindLemmas.{nth-of-kind}
-use Rattle.bq_simulate.proofs.OpenWellLemmas.{few_before, opens-well, tasks-open}
-use Rattle.bq_simulate.proofs.SoundKindLemmas.{admissible_kind}
-use Rattle.bq_simulate.proofs.WellLemmas.{err-by}
+use Rattle.bq_simulate.proofs.GoesWellLemmas.{err-by}
+use Rattle.bq_simulate.proofs.OpensWellLemmas.{few_before, opens-well, tasks-open}
+use Rattle.bq_simulate.proofs.SoundWorkloadLemmas.{admissible_kind}
+use Rattle.bq_simulate.proofs.TasksOfKindLemmas.{nth-of-kind}
 use Rattle.bq_simulate.proofs.simulation.Simulation.admit_kind.Goals as goal
 
 pub tasks-init : goal.tasks-init

@@ -8,9 +8,9 @@ use Rattle.bq_workload.specs.Soundness.{IsFirstAllowed}
 use Rattle.bq_simulate.specs.AgreementLaws.{FailsForMemory}
 use Rattle.bq_simulate.specs.Drives.{EventIsDriven, IsDriveFault}
 use Rattle.bq_simulate.specs.Steps.{AreJustEvents}
-use Rattle.bq_simulate.proofs.CallLemmas.{calls_fail_for_memory}
+use Rattle.bq_simulate.proofs.CallFaultLemmas.{calls_fail_for_memory}
 use Rattle.bq_simulate.proofs.DeedLemmas.{GoesOnBy-event}
-use Rattle.bq_simulate.proofs.WellLemmas.{err-by}
+use Rattle.bq_simulate.proofs.GoesWellLemmas.{err-by}
 use Rattle.bq_simulate.proofs.simulation.Simulation.admit_one.Goals as goal
 
 pub returns-clause-goes_on : goal.returns-clause-goes_on

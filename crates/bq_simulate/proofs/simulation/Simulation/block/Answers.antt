@@ -3,8 +3,8 @@ use Rattle.std.proofs.lemmas.Result.{err_from_is_err_and}
 use Rattle.bq_parts.specs.declared.event.Event.TheVariants.{Block}
 use Rattle.bq_workload.specs.Accounts.{accounts_of, left_by}
 use Rattle.bq_simulate.specs.Steps.{AreJustEvents}
-use Rattle.bq_simulate.proofs.AsleepLemmas.{block_fails, block_leaves}
 use Rattle.bq_simulate.proofs.DeedLemmas.{GoesOnBy-event}
+use Rattle.bq_simulate.proofs.FallsAsleepLemmas.{block_fails, block_leaves}
 use Rattle.bq_simulate.proofs.simulation.Simulation.block.Goals as goal
 
 pub returns-clause-goes_on : goal.returns-clause-goes_on

@@ -3,11 +3,11 @@ use Rattle.bq_parts.specs.declared.event.Event.{Event}
 use Rattle.bq_parts.specs.declared.event.Event.TheVariants.{Tick}
 use Rattle.bq_simulate.specs.Deeds.{Deed}
 use Rattle.bq_simulate.specs.Steps.{AreJustEvents, last_ticks}
+use Rattle.bq_simulate.proofs.AllProcessorsLemmas.{each_more}
 use Rattle.bq_simulate.proofs.DeedLemmas.{GoesOnBy-join, GoesOnBy-same, GoesOnBy-weaker, OnlyPlansOrCounts-here}
-use Rattle.bq_simulate.proofs.EndWellLemmas.{ticked-well}
-use Rattle.bq_simulate.proofs.ProcessorStateLemmas.{each_more}
-use Rattle.bq_simulate.proofs.StepLemmas.{AreJustEvents-join}
-use Rattle.bq_simulate.proofs.WellLemmas.{err-by}
+use Rattle.bq_simulate.proofs.DueInOrderLemmas.{AreJustEvents-join}
+use Rattle.bq_simulate.proofs.GoesWellLemmas.{err-by}
+use Rattle.bq_simulate.proofs.LastTicksLemmas.{ticked-well}
 use Rattle.bq_simulate.proofs.simulation.Simulation.finish.Goals as goal
 
 pub processors-preserved : goal.processors-preserved

@@ -7,12 +7,12 @@ use Rattle.bq_verify.specs.Accepted.{Accepted}
 use Rattle.bq_simulate.specs.AgreementLaws.{FailsForMemory}
 use Rattle.bq_simulate.specs.Deeds.{Deed}
 use Rattle.bq_simulate.specs.Steps.{AreInstalled, AreJustEvents, IsInstalled, installs_of}
-use Rattle.bq_simulate.proofs.CallLemmas.{calls_fail_for_memory}
+use Rattle.bq_simulate.proofs.CallFaultLemmas.{calls_fail_for_memory}
 use Rattle.bq_simulate.proofs.DeedLemmas.{GoesOnBy-event, GoesOnBy-join, GoesOnBy-same, GoesOnBy-weaker, OnlyPlansOrCounts-here}
-use Rattle.bq_simulate.proofs.InstallLemmas.{AreInstalled-next}
-use Rattle.bq_simulate.proofs.NewerLemmas.{drawn-newer}
-use Rattle.bq_simulate.proofs.OpenWellLemmas.{IsDrawn, draw-opens, installed-well, opens-well}
-use Rattle.bq_simulate.proofs.WellLemmas.{err-by}
+use Rattle.bq_simulate.proofs.DriverGenerationLemmas.{drawn-newer}
+use Rattle.bq_simulate.proofs.GoesWellLemmas.{err-by}
+use Rattle.bq_simulate.proofs.InstallInTurnLemmas.{AreInstalled-next}
+use Rattle.bq_simulate.proofs.OpensWellLemmas.{IsDrawn, draw-opens, installed-well, opens-well}
 use Rattle.bq_simulate.proofs.simulation.Simulation.install.Goals as goal
 
 pub policies-preserved : goal.policies-preserved

@@ -9,13 +9,13 @@ use Rattle.bq_simulate.specs.AgreementLaws.{FailsForMemory}
 use Rattle.bq_simulate.specs.Deeds.{Deed}
 use Rattle.bq_simulate.specs.Drives.{IsDriveFault}
 use Rattle.bq_simulate.specs.Steps.{AreJustEvents, installs_of}
+use Rattle.bq_simulate.proofs.CallFaultLemmas.{calls_fail_for_memory}
 use Rattle.bq_simulate.proofs.DeedLemmas.{GoesOnBy-drove, GoesOnBy-join, GoesOnBy-same, GoesOnBy-weaker, OnlyPlansOrCounts-here}
-use Rattle.bq_simulate.proofs.InstallLemmas.{installs_more}
-use Rattle.bq_simulate.proofs.NewerLemmas.{installed-newer}
-use Rattle.bq_simulate.proofs.CallLemmas.{calls_fail_for_memory}
-use Rattle.bq_simulate.proofs.OpenWellLemmas.{installs-open, opens-well}
-use Rattle.bq_simulate.proofs.StepLemmas.{AreJustEvents-join}
-use Rattle.bq_simulate.proofs.WellLemmas.{err-by}
+use Rattle.bq_simulate.proofs.DriverGenerationLemmas.{installed-newer}
+use Rattle.bq_simulate.proofs.DueInOrderLemmas.{AreJustEvents-join}
+use Rattle.bq_simulate.proofs.GoesWellLemmas.{err-by}
+use Rattle.bq_simulate.proofs.InstallInTurnLemmas.{installs_more}
+use Rattle.bq_simulate.proofs.OpensWellLemmas.{installs-open, opens-well}
 use Rattle.bq_simulate.proofs.simulation.Simulation.install_one.Goals as goal
 
 pub processors-preserved : goal.processors-preserved

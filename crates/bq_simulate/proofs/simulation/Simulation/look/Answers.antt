@@ -1,16 +1,16 @@
 use Rattle.std.proofs.Common.{[], ◌∷◌, ℕ, Option, None, Some, refl, subst, ap, ◌∙◌, arith, length}
 use Rattle.std.proofs.lemmas.Option.{slice_get_within}
 use Rattle.bq_workload.specs.Accounts.{Accounts, accounts_of}
-use Rattle.bq_simulate.proofs.AccountLemmas.{changed_at-length}
+use Rattle.bq_simulate.proofs.AccountsReadLemmas.{changed_at-length}
 use Rattle.std.proofs.lemmas.Result.{on_ok_weaker}
 use Rattle.bq_workload.specs.declared.due.Due.TheVariants as due
 use Rattle.bq_workload.specs.Dues.{IsSource}
 use Rattle.bq_parts.specs.declared.event.Event.TheVariants.{Pull}
 use Rattle.bq_simulate.specs.declared.simulation.Simulation.{Simulation}
 use Rattle.bq_simulate.specs.Steps.{AreJustEvents, DeedsMeet}
+use Rattle.bq_simulate.proofs.BeatAndLookLemmas.{looks, well_looked}
+use Rattle.bq_simulate.proofs.ComesDueLemmas.{looks_now, pulls_from}
 use Rattle.bq_simulate.proofs.DeedLemmas.{GoesOnForAnyKinds-looks, GoesOnBy-same, OnlyPlansOrCounts-here}
-use Rattle.bq_simulate.proofs.ComingLemmas.{looks_now, pulls_from}
-use Rattle.bq_simulate.proofs.WellMeetLemmas.{looks, well_looked}
 use Rattle.bq_simulate.proofs.simulation.Simulation.look.Goals as goal
 
 pub returns-in-Some-clause-goes_on : goal.returns-in-Some-clause-goes_on

@@ -6,9 +6,9 @@ use Rattle.bq_simulate.specs.GoingWell.{EndsEarly}
 use Rattle.bq_simulate.specs.Simulations.{GoesOnFromBook}
 use Rattle.bq_simulate.specs.Steps.{AreAllAdmitted, AreAllMet, AreInstalled, AreMet, Opens}
 use Rattle.bq_simulate.proofs.DeedLemmas.{GoesOnBy-join, GoesOnBy-weaker}
-use Rattle.bq_simulate.proofs.OpenWellLemmas.{installed-well, opened-well, streams-there}
-use Rattle.bq_simulate.proofs.WellLemmas.{err-by, wants-no-end}
-use Rattle.bq_simulate.proofs.WholeLemmas.{Opens-join, Proceeds-join, ProceedsBy-join}
+use Rattle.bq_simulate.proofs.GoesWellLemmas.{err-by, wants-no-end}
+use Rattle.bq_simulate.proofs.OpensWellLemmas.{installed-well, opened-well, streams-there}
+use Rattle.bq_simulate.proofs.WholeSimulationLemmas.{Opens-join, Proceeds-join, ProceedsBy-join}
 use Rattle.bq_simulate.proofs.simulation.Simulation.proceed.Goals as goal
 
 pub returns-clause-goes_on : goal.returns-clause-goes_on

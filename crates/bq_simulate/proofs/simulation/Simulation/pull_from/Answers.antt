@@ -6,7 +6,7 @@ use Rattle.bq_simulate.specs.Drives.{runs_now}
 use Rattle.bq_workload.specs.Accounts.{Accounts, accounts_of, accounts_switched}
 use Rattle.bq_simulate.specs.Steps.{AreJustEvents}
 use Rattle.bq_simulate.proofs.DeedLemmas.{GoesOnBy-event}
-use Rattle.bq_simulate.proofs.WellStepLemmas.{pull_fails, pull_passes, pull_switches}
+use Rattle.bq_simulate.proofs.NoStrayCallLemmas.{pull_fails, pull_passes, pull_switches}
 use Rattle.bq_simulate.proofs.simulation.Simulation.pull_from.Goals as goal
 
 pub returns-clause-goes_on : goal.returns-clause-goes_on

@@ -7,10 +7,10 @@ use Rattle.bq_simulate.specs.GoingWell.{EndsEarly}
 use Rattle.bq_simulate.specs.Simulations.{ProceedsIn}
 use Rattle.bq_simulate.specs.Steps.{AreJustEvents, last_ticks}
 use Rattle.bq_simulate.proofs.DeedLemmas.{GoesOnBy-weaker}
-use Rattle.bq_simulate.proofs.EndWellLemmas.{ended-well, keep_phases}
-use Rattle.bq_simulate.proofs.OpenWellLemmas.{processors-there}
-use Rattle.bq_simulate.proofs.SoundKindLemmas.{sound_times}
-use Rattle.bq_simulate.proofs.WellLemmas.{err-by, wants-no-end}
+use Rattle.bq_simulate.proofs.GoesWellLemmas.{err-by, wants-no-end}
+use Rattle.bq_simulate.proofs.LastTicksLemmas.{ended-well, keep_phases}
+use Rattle.bq_simulate.proofs.OpensWellLemmas.{processors-there}
+use Rattle.bq_simulate.proofs.SoundWorkloadLemmas.{sound_times}
 use Rattle.bq_simulate.proofs.simulation.Simulation.run.Goals as goal
 
 -- where the sink has enough the rest is left

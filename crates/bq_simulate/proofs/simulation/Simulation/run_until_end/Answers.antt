@@ -5,12 +5,12 @@ use Rattle.bq_workload.specs.Accounts.{accounts_of}
 use Rattle.bq_workload.specs.Next.{IsAgreed, IsNextDue, NothingComes}
 use Rattle.bq_simulate.specs.Simulations.{book_of}
 use Rattle.bq_simulate.specs.Steps.{AreAllMet}
-use Rattle.bq_simulate.proofs.BoundLemmas.{bound-passed, counted-well, none-came}
-use Rattle.bq_simulate.proofs.DeedLemmas.{GoesOnBy-same, OnlyPlansOrCounts-here}
 use Rattle.bq_simulate.proofs.BookLemmas.{met-more}
-use Rattle.bq_simulate.proofs.StepLemmas.{AreMet-none}
-use Rattle.bq_simulate.proofs.WellLemmas.{comes-well, err-by, met-well, wants-no-end}
-use Rattle.bq_simulate.proofs.WholeLemmas.{GoesOnFromBook-all, GoesOnFromBook-within}
+use Rattle.bq_simulate.proofs.DeedLemmas.{GoesOnBy-same, OnlyPlansOrCounts-here}
+use Rattle.bq_simulate.proofs.DueInOrderLemmas.{AreMet-none}
+use Rattle.bq_simulate.proofs.FewUntilEndLemmas.{bound-passed, counted-well, none-came}
+use Rattle.bq_simulate.proofs.GoesWellLemmas.{comes-well, err-by, met-well, wants-no-end}
+use Rattle.bq_simulate.proofs.WholeSimulationLemmas.{GoesOnFromBook-all, GoesOnFromBook-within}
 use Rattle.bq_simulate.proofs.simulation.Simulation.run_until_end.Goals as goal
 use Rattle.bq_simulate.proofs.simulation.Simulation.run_until_end.Goals.{then-now-last-via-then-now-last, then-now-last-via-else-now-last+then-now-end}
 

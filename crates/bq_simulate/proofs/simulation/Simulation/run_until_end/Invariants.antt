@@ -3,7 +3,7 @@ use Rattle.bq_workload.specs.Accounts.{accounts_of}
 use Rattle.bq_simulate.specs.GoingWell.{SimulationGoesWell, HasProcessors}
 use Rattle.bq_simulate.specs.Simulations.{GoesOnFromBook}
 use Rattle.bq_simulate.specs.Steps.{AreAllMet}
-use Rattle.bq_simulate.proofs.BoundLemmas.{IsCounted}
+use Rattle.bq_simulate.proofs.FewUntilEndLemmas.{IsCounted}
 use Rattle.bq_simulate.proofs.simulation.Simulation.run_until_end.Given as goal
 
 abbrev pub invariant-steps : goal.invariant-steps

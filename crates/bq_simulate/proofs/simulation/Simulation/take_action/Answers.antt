@@ -6,7 +6,7 @@ use Rattle.bq_workload.specs.Accounts.{IsPhaseDone, accounts_of}
 use Rattle.bq_simulate.specs.Actions.{acted, asked_by}
 use Rattle.bq_simulate.specs.Simulations.{DrawsFor}
 use Rattle.bq_simulate.proofs.DeedLemmas.{GoesOnUnreported-acts}
-use Rattle.bq_simulate.proofs.EndLemmas.{has_ended, no_stray_action, no_stray_end, no_stray_length, no_stray_progress}
+use Rattle.bq_simulate.proofs.PhaseEndLemmas.{has_ended, no_stray_action, no_stray_end, no_stray_length, no_stray_progress}
 use Rattle.bq_simulate.proofs.StreamLemmas.{kept_roster}
 use Rattle.bq_simulate.proofs.simulation.Simulation.take_action.Goals as goal
 

@@ -4,7 +4,7 @@ use Rattle.bq_parts.specs.declared.event.Event.TheVariants.{Tick}
 use Rattle.bq_workload.specs.Accounts.{accounts_of, accounts_switched}
 use Rattle.bq_simulate.specs.Steps.{AreJustEvents}
 use Rattle.bq_simulate.proofs.DeedLemmas.{GoesOnBy-event}
-use Rattle.bq_simulate.proofs.WellStepLemmas.{tick_fails, tick_switches}
+use Rattle.bq_simulate.proofs.NoStrayCallLemmas.{tick_fails, tick_switches}
 use Rattle.bq_simulate.proofs.simulation.Simulation.tick.Goals as goal
 
 pub returns-clause-goes_on : goal.returns-clause-goes_on

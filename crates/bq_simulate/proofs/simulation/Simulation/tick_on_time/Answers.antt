@@ -7,11 +7,11 @@ use Rattle.bq_parts.specs.declared.event.Event.TheVariants.{Tick}
 use Rattle.bq_simulate.specs.declared.simulation.Simulation.{Simulation}
 use Rattle.bq_simulate.specs.Deeds.{is_busy}
 use Rattle.bq_simulate.specs.Steps.{AreJustEvents, DeedsMeet}
-use Rattle.bq_simulate.proofs.AccountLemmas.{changed_at-length}
+use Rattle.bq_simulate.proofs.AccountsReadLemmas.{changed_at-length}
+use Rattle.bq_simulate.proofs.AllProcessorsLemmas.{busy_at}
+use Rattle.bq_simulate.proofs.BeatAndLookLemmas.{beats, ticks_busy, well_beaten}
+use Rattle.bq_simulate.proofs.ComesDueLemmas.{ticks_now}
 use Rattle.bq_simulate.proofs.DeedLemmas.{GoesOnForAnyKinds-beats}
-use Rattle.bq_simulate.proofs.ComingLemmas.{ticks_now}
-use Rattle.bq_simulate.proofs.ProcessorStateLemmas.{busy_at}
-use Rattle.bq_simulate.proofs.WellMeetLemmas.{beats, ticks_busy, well_beaten}
 use Rattle.bq_simulate.proofs.simulation.Simulation.tick_on_time.Goals as goal
 
 pub returns-clause-goes_on : goal.returns-clause-goes_on

@@ -7,7 +7,7 @@ use Rattle.bq_workload.specs.declared.periods.Periods.{Periods}
 use Rattle.bq_workload.specs.Accounts.{Accounts, accounts_of, accounts_entered, of_task}
 use Rattle.bq_workload.specs.TaskProgress.{progress_woken}
 use Rattle.bq_simulate.proofs.DeedLemmas.{GoesOnBy-wakes}
-use Rattle.bq_simulate.proofs.WellStepLemmas.{drain_fails, wake_enters, wake_fails, wake_rests}
+use Rattle.bq_simulate.proofs.NoStrayCallLemmas.{drain_fails, wake_enters, wake_fails, wake_rests}
 use Rattle.bq_simulate.proofs.simulation.Simulation.wake.Goals as goal
 
 pub returns-clause-events : goal.returns-clause-events

@@ -8,8 +8,8 @@ use Rattle.bq_simulate.specs.Deeds.{Deed, Misses, Reaches}
 use Rattle.bq_simulate.specs.Simulations.{GoesOnForAnyKinds, GoesByDeeds, GoesOnBy}
 use Rattle.bq_simulate.specs.Steps.{AreJustEvents, AreWake, WakesTask}
 use Rattle.bq_simulate.specs.declared.simulation.Simulation.{Simulation}
-use Rattle.bq_simulate.proofs.AimLemmas.{aim_counted, aim_there, first_kept}
 use Rattle.bq_simulate.proofs.DeedLemmas.{GoesOnForAnyKinds-first, GoesOnBy-same, Stays-here}
+use Rattle.bq_simulate.proofs.WakeAimLemmas.{aim_counted, aim_there, first_kept}
 use Rattle.bq_simulate.proofs.simulation.Simulation.wake_next.Goals as goal
 
 -- the task that is found by the first of its kind is the one at which the wake aims

@@ -1,4 +1,4 @@
--- While a simulation goes well what comes due is met: a timer rings, a clock beats and a processor looks as they are to.
+-- While a simulation goes well, clocks beat and processors look as they are to, and it goes well after that.
 use Rattle.std.proofs.Common.{◌≡◌, ℕ, ◌<◌, ◌≤◌, inl, inr, true, Option, Some, refl, sym, subst, ap, ◌∙◌, arith}
 use Rattle.std.specs.Prelude.{is_some, slice_get}
 use Rattle.std.proofs.lemmas.Option.{none-some, slice_get_within}
@@ -15,11 +15,11 @@ use Rattle.bq_simulate.specs.Agreement.{IsOnTime, ProcessorIsOnTime}
 use Rattle.bq_simulate.specs.Deeds.{is_busy}
 use Rattle.bq_simulate.specs.Kept.{IsKept}
 use Rattle.bq_simulate.specs.GoingWell.{SimulationGoesWell}
+use Rattle.bq_simulate.proofs.AllProcessorsLemmas.{busy_at}
 use Rattle.bq_simulate.proofs.MeetAgreeLemmas.{agrees_processor, world_of}
-use Rattle.bq_simulate.proofs.ProcessorStateLemmas.{busy_at}
-use Rattle.bq_simulate.proofs.SoundKindLemmas.{sound_times}
-use Rattle.bq_simulate.proofs.TimeKeptLemmas.{beaten_kept, looked_kept}
-use Rattle.bq_simulate.proofs.WellStepLemmas.{well_looks, well_there, well_ticks}
+use Rattle.bq_simulate.proofs.NoStrayCallLemmas.{well_looks, well_there, well_ticks}
+use Rattle.bq_simulate.proofs.SoundWorkloadLemmas.{sound_times}
+use Rattle.bq_simulate.proofs.StaysOnTimeLemmas.{beaten_kept, looked_kept}
 
 -- a simulation of which only a processor's times change goes well as before, where nothing is past
 well_timed : (f : ProcessorState → ProcessorState) → ((l : ProcessorState) → (f l).run ≡ l.run)

@@ -1,4 +1,4 @@
--- A simulation that opens well.
+-- A simulation that opens well: once all tasks are there, it goes well from instant 0.
 use Rattle.std.proofs.Common.{◌≡◌, ℕ, ◌+◌, ◌<◌, List, [], ◌∷◌, length, None, Some, refl, sym, subst, ap, ◌∙◌, arith}
 use Rattle.std.specs.Prelude.{slice_get}
 use Rattle.bq_parts.specs.declared.event.Event.TheVariants.{Draw, Install}
@@ -25,15 +25,15 @@ use Rattle.bq_simulate.specs.KeptLaws.{DeedsLeadIn}
 use Rattle.bq_simulate.specs.GoingWell.{SimulationGoesWell, IsOpening, OpensWell, StartsWell}
 use Rattle.bq_simulate.specs.Simulations.{GoesOnForAnyKinds, GoesOnBy, GoesOnFromBook, GoesOnUnreported, book_of, opening_book, periods_of, with_seed}
 use Rattle.bq_simulate.specs.Steps.{AreAdmitted, AreInstalled, AreJustEvents, all_processors, installs_of}
+use Rattle.bq_simulate.proofs.AllIsKeptLemmas.{none_stands}
 use Rattle.bq_simulate.proofs.DeedLemmas.{GoesOnBy-unreported}
-use Rattle.bq_simulate.proofs.GenerationLemmas.{generations_are_newer}
-use Rattle.bq_simulate.proofs.KindLemmas.{kind-within}
-use Rattle.bq_simulate.proofs.KeptLemmas.{none_stands}
+use Rattle.bq_simulate.proofs.GoesWellLemmas.{processors_kept}
 use Rattle.bq_simulate.proofs.SimulationAgreeLemmas.{admitted_open, draw_opens, install_opens, installed_opens, just_kept, none_kept, opening_opens}
-use Rattle.bq_simulate.proofs.StandingLemmas.{standing_is_kept}
+use Rattle.bq_simulate.proofs.StandsAtActionLemmas.{standing_is_kept}
 use Rattle.bq_simulate.proofs.StreamLemmas.{streams_count}
-use Rattle.bq_simulate.proofs.WellLemmas.{processors_kept}
-use Rattle.bq_simulate.proofs.WholeLemmas.{IsNew, firsts-none}
+use Rattle.bq_simulate.proofs.TasksOfKindLemmas.{kind-within}
+use Rattle.bq_simulate.proofs.WholeSimulationLemmas.{IsNew, firsts-none}
+use Rattle.bq_simulate.proofs.WorldGenerationLemmas.{generations_are_newer}
 
 -- deeds that keep an opening, and lead from one number of tasks to another
 abbrev pub Opening : Workload → ℕ → ℕ → ℕ → (List Deed → Type 0) → Type 0

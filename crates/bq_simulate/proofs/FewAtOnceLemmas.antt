@@ -28,11 +28,11 @@ use Rattle.bq_simulate.specs.Actions.{IsTaskOfKind, first_task_of}
 use Rattle.bq_simulate.specs.AtOnce.{kind_actions, in_all, steps_left_at, left_in, left_of_processor, left_of_task, steps_ahead, uncounted}
 use Rattle.bq_simulate.specs.Deeds.{Book}
 use Rattle.bq_simulate.specs.Kept.{IsKept}
-use Rattle.bq_simulate.proofs.InAllLemmas.{in_all-no_more, sum-most}
-use Rattle.bq_simulate.proofs.LeftLemmas.{at-most-one}
-use Rattle.bq_simulate.proofs.SoundKindLemmas.{IsSoundKind, sound_kind}
+use Rattle.bq_simulate.proofs.SoundWorkloadLemmas.{IsSoundKind, sound_kind}
+use Rattle.bq_simulate.proofs.StaysOnTimeLemmas.{run_of, runner_low}
 use Rattle.bq_simulate.proofs.StepsAheadLemmas.{steps-round}
-use Rattle.bq_simulate.proofs.TimeKeptLemmas.{run_of, runner_low}
+use Rattle.bq_simulate.proofs.StepsLeftLemmas.{at-most-one}
+use Rattle.bq_simulate.proofs.SumOverAllLemmas.{in_all-no_more, sum-most}
 
 -- The tasks of each kind
 

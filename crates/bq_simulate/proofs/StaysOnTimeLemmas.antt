@@ -24,7 +24,7 @@ use Rattle.bq_workload.proofs.ProcessorAgreesLemmas.{both, charged-is, counted, 
 use Rattle.bq_simulate.specs.Agreement.{AgreesWith, IsOnTime, ProcessorIsOnTime, RunsOnTime, StandsAs, TaskIsOnTime, runner_at, state_at}
 use Rattle.bq_simulate.specs.AgreementLaws.{RunsAlone, StaysOnTime, TasksRunAlone}
 use Rattle.bq_simulate.specs.Deeds.{is_busy}
-use Rattle.bq_simulate.proofs.AccountLemmas.{Reads, changed_at-length, reads_charged, reads_switched}
+use Rattle.bq_simulate.proofs.AccountsReadLemmas.{Reads, changed_at-length, reads_charged, reads_switched}
 use Rattle.bq_simulate.proofs.MeetAgreeLemmas.{current_counted, runs_away}
 
 -- a task runs at one processor only

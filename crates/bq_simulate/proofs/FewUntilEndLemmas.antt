@@ -20,13 +20,13 @@ use Rattle.bq_simulate.specs.KeptLaws.{FewComeAtOnce, FewComeUntilTheEnd, DeedsL
 use Rattle.bq_simulate.specs.GoingWell.{SimulationGoesWell, HasProcessors}
 use Rattle.bq_simulate.specs.Simulations.{GoesOnBy, book_of, opening_book, periods_of, with_seed}
 use Rattle.bq_simulate.specs.Steps.{AreInOrder, DeedsMeet, MetDue, deeds_of}
-use Rattle.bq_simulate.proofs.CountedLemmas.{few-left, processors_in-some}
-use Rattle.bq_simulate.proofs.KeptLemmas.{all_is_kept}
+use Rattle.bq_simulate.proofs.AllIsKeptLemmas.{all_is_kept}
+use Rattle.bq_simulate.proofs.BookLemmas.{kept-by}
+use Rattle.bq_simulate.proofs.FewAtOnceLemmas.{few-left, processors_in-some}
+use Rattle.bq_simulate.proofs.GoesWellLemmas.{met-well, processors_kept}
 use Rattle.bq_simulate.proofs.MeetAgreeLemmas.{world_of}
 use Rattle.bq_simulate.proofs.MeetLeftLemmas.{meet-takes}
-use Rattle.bq_simulate.proofs.BookLemmas.{kept-by}
 use Rattle.bq_simulate.proofs.SimulationAgreeLemmas.{opened_open, part}
-use Rattle.bq_simulate.proofs.WellLemmas.{met-well, processors_kept}
 
 -- One instant
 

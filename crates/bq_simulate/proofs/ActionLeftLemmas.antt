@@ -25,7 +25,7 @@ use Rattle.bq_simulate.specs.Actions.{acted, action_at, action_count, advanced_i
 use Rattle.bq_simulate.specs.AtOnce.{actions_ahead, kind_actions, left_in, left_of_task, steps_ahead, steps_until, uncounted}
 use Rattle.bq_simulate.specs.Deeds.{length_taken}
 use Rattle.bq_simulate.proofs.MeetAgreeLemmas.{advanced_state, woken_one_state}
-use Rattle.bq_simulate.proofs.StandingLemmas.{else_of}
+use Rattle.bq_simulate.proofs.StandsAtActionLemmas.{else_of}
 use Rattle.bq_simulate.proofs.StepsAheadLemmas.{dropped-first, steps-first, steps-some}
 use Rattle.bq_disc.specs.declared.clock.TheConstants.{LATEST}
 

@@ -1,5 +1,4 @@
--- What is read of the accounts after each of their changes: the states of the tasks, what runs at each processor, and
--- how many tasks it has.
+-- What is read of the accounts after each of their changes: tasks' states, what runs at each processor, and how many tasks it has.
 use Rattle.std.proofs.Common.{◌≡◌, ◌≢◌, ℕ, ◌+◌, ◌-◌, inl, inr, Bool, true, false, List, length, Option, Some, None, refl, sym, ap, ◌∙◌, subst}
 use Rattle.std.specs.Prelude.{slice_get, slice_set, if◌then◌else◌}
 use Rattle.std.specs.Option.{option_map_or}

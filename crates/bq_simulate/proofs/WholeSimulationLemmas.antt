@@ -17,9 +17,9 @@ use Rattle.bq_simulate.specs.Deeds.{Book, Deed, DeedsLead, after_deeds}
 use Rattle.bq_workload.specs.Next.{IsAgreed, NothingComes}
 use Rattle.bq_simulate.specs.Simulations.{SimulationBegins, GoesByDeeds, HasFirsts, IsFollowed, IsSimulation, IsTooLong, GoesOnBy, GoesOnFromBook, Proceeds, ProceedsBy, ProceedsIn, ProceedsOut, RunsToLastTicks, ComesToBound, RunsToEndOrEnough, book_of, opening_book, periods_of}
 use Rattle.bq_simulate.specs.Steps.{AreAllAdmitted, AreAllMet, AreInstalled, AreMet, Opens}
-use Rattle.bq_simulate.proofs.DeedLemmas.{GoesByDeeds-join, GoesByDeeds-weaker, DeedsLead-append, drives-of-deeds}
 use Rattle.bq_simulate.proofs.BookLemmas.{book-after}
-use Rattle.bq_simulate.proofs.StepLemmas.{AreAllMet-within, AreMet-within}
+use Rattle.bq_simulate.proofs.DeedLemmas.{GoesByDeeds-join, GoesByDeeds-weaker, DeedsLead-append, drives-of-deeds}
+use Rattle.bq_simulate.proofs.DueInOrderLemmas.{AreAllMet-within, AreMet-within}
 
 -- what is installed, and then what is admitted
 pub Opens-join : (policies : List Accepted) (processors : ℕ) (kinds : List TaskKind) (xs ys : List Deed)

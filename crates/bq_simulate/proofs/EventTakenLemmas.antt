@@ -1,4 +1,4 @@
--- The events that a world takes, one by one.
+-- The events that a world takes, one by one: a tick, a block, a pull, a draw and an install.
 use Rattle.std.proofs.Common.{◌≡◌, ◌≢◌, ℕ, ◌+◌, ◌-◌, ◌<◌, ◌≤◌, inl, inr, true, false, cond, List, [], ◌∷◌, length, Option, Some, None, refl, sym, subst, ap, ◌∙◌, arith}
 use Rattle.std.specs.Prelude.{◌==◌, nat_le, nat_lt, Ok, is_none, slice_get, slice_set}
 use Rattle.std.specs.Option.{option_map, option_map_or, option_to_list}
@@ -44,7 +44,7 @@ use Rattle.bq_workload.proofs.ListLemmas.{changed_at-here, changed_at-others}
 use Rattle.bq_simulate.specs.Agreement.{AgreesBut, AgreesWith, HaveProcessors, RunsAs, StandsAs, can_run, runner_at, state_at}
 use Rattle.bq_simulate.specs.AgreementLaws.{BlocksAreTaken, DrawsAreTaken, InstallsAreTaken, PullsAreTaken, TicksAreTaken}
 use Rattle.bq_simulate.specs.Drives.{runs_now, task_pulled}
-use Rattle.bq_simulate.proofs.AccountLemmas.{Reads, reads_grown, reads_join, reads_same, reads_shrunk, reads_switched}
+use Rattle.bq_simulate.proofs.AccountsReadLemmas.{Reads, reads_grown, reads_join, reads_same, reads_shrunk, reads_switched}
 use Rattle.bq_simulate.proofs.MirrorLemmas.{agree_after, each, homes_switched, runs_written, settled_written, size_decided, size_there, run_there, state_there, tally_length, tasks_kept, there}
 
 -- Ticks

@@ -34,13 +34,13 @@ use Rattle.bq_simulate.specs.Deeds.{IsWokenFrom, IsWoken, is_busy}
 use Rattle.bq_simulate.specs.Drives.{DrivesEvent, IsWakeFault, PlacesWoken, count_entered, runs_now, task_pulled}
 use Rattle.bq_simulate.specs.GoingWell.{SimulationGoesWell}
 use Rattle.bq_simulate.specs.Simulations.{book_of}
-use Rattle.bq_simulate.proofs.CallLemmas.{calls_fail_for_memory}
+use Rattle.bq_simulate.proofs.CallFaultLemmas.{calls_fail_for_memory}
+use Rattle.bq_simulate.proofs.EventTakenLemmas.{pulled_from_some}
 use Rattle.bq_simulate.proofs.MeetAgreeLemmas.{pull_agrees, same_discipline, sleeps_if_woken, step_of, tick_agrees, world_of}
-use Rattle.bq_simulate.proofs.MeetTimeLemmas.{sleeper_rests, woken_on_time}
+use Rattle.bq_simulate.proofs.MeetOnTimeLemmas.{sleeper_rests, woken_on_time}
 use Rattle.bq_simulate.proofs.MirrorLemmas.{state_there}
-use Rattle.bq_simulate.proofs.SoundKindLemmas.{sound_times}
-use Rattle.bq_simulate.proofs.StraySwitchLemmas.{CanSwitch, can_switch, can_switch_sized, next_counted, no_stray_switch, runs_elsewhere}
-use Rattle.bq_simulate.proofs.TakenLemmas.{pulled_from_some}
+use Rattle.bq_simulate.proofs.NoStraySwitchLemmas.{CanSwitch, can_switch, can_switch_sized, next_counted, no_stray_switch, runs_elsewhere}
+use Rattle.bq_simulate.proofs.SoundWorkloadLemmas.{sound_times}
 use Rattle.bq_simulate.proofs.WakeTakenLemmas.{present_there, sleeper_stands, wakes_are_taken}
 use Rattle.bq_disc.specs.declared.clock.TheConstants.{LATEST}
 

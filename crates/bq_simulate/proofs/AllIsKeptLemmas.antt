@@ -30,14 +30,14 @@ use Rattle.bq_simulate.specs.Kept.{IsKept, StandAtActions}
 use Rattle.bq_simulate.specs.KeptLaws.{AllIsKept, BeginningsAreKept, DeedsLeadIn}
 use Rattle.bq_simulate.specs.Simulations.{opening_book, periods_of}
 use Rattle.bq_simulate.specs.Steps.{AreInOrder, AreJustEvents, AreWake, FollowsAction, DeedsMeet, Opens, MetDue, WakesTask, deeds_of, pulls_of}
-use Rattle.bq_simulate.proofs.AccountLemmas.{changed_at-length}
-use Rattle.bq_simulate.proofs.MeetAgreeLemmas.{meetings_agree, step_of, world_of}
-use Rattle.bq_simulate.proofs.MeetTimeLemmas.{meetings_are_on_time}
+use Rattle.bq_simulate.proofs.AccountsReadLemmas.{changed_at-length}
 use Rattle.bq_simulate.proofs.BookLemmas.{kept-by}
+use Rattle.bq_simulate.proofs.MeetAgreeLemmas.{meetings_agree, step_of, world_of}
+use Rattle.bq_simulate.proofs.MeetOnTimeLemmas.{meetings_are_on_time}
+use Rattle.bq_simulate.proofs.NothingMissedLemmas.{nothing_is_missed}
 use Rattle.bq_simulate.proofs.SimulationAgreeLemmas.{none_kept, opened_open, part}
-use Rattle.bq_simulate.proofs.SoundKindLemmas.{sound_times}
-use Rattle.bq_simulate.proofs.StandingLemmas.{charged_keeps, count_of_places, event_keeps, standing_is_kept}
-use Rattle.bq_simulate.proofs.TimeLemmas.{nothing_is_missed}
+use Rattle.bq_simulate.proofs.SoundWorkloadLemmas.{sound_times}
+use Rattle.bq_simulate.proofs.StandsAtActionLemmas.{charged_keeps, count_of_places, event_keeps, standing_is_kept}
 
 -- What is done at an instant
 

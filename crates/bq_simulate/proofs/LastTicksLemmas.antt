@@ -25,15 +25,15 @@ use Rattle.bq_simulate.specs.Drives.{DrivesEvent, runs_now}
 use Rattle.bq_simulate.specs.GoingWell.{SimulationGoesWell, HasGoneWell}
 use Rattle.bq_simulate.specs.Simulations.{GoesOnBy, book_of, periods_of, with_seed}
 use Rattle.bq_simulate.specs.Steps.{AreJustEvents, all_processors, last_ticks}
-use Rattle.bq_simulate.proofs.KeptLemmas.{AreBy, by_kept}
+use Rattle.bq_simulate.proofs.AllIsKeptLemmas.{AreBy, by_kept}
+use Rattle.bq_simulate.proofs.GoesWellLemmas.{KeepAll, goes-well, processors_kept}
 use Rattle.bq_simulate.proofs.MeetAgreeLemmas.{step_of, tick_agrees, world_of}
 use Rattle.bq_simulate.proofs.MirrorLemmas.{state_there}
+use Rattle.bq_simulate.proofs.NothingMissedLemmas.{on_time_to_end}
 use Rattle.bq_simulate.proofs.SimulationAgreeLemmas.{none_kept}
-use Rattle.bq_simulate.proofs.SoundKindLemmas.{sound_times}
-use Rattle.bq_simulate.proofs.StandingLemmas.{standing_is_kept}
-use Rattle.bq_simulate.proofs.TimeKeptLemmas.{switched_kept, tasks_run_alone}
-use Rattle.bq_simulate.proofs.TimeLemmas.{on_time_to_end}
-use Rattle.bq_simulate.proofs.WellLemmas.{KeepAll, goes-well, processors_kept}
+use Rattle.bq_simulate.proofs.SoundWorkloadLemmas.{sound_times}
+use Rattle.bq_simulate.proofs.StandsAtActionLemmas.{standing_is_kept}
+use Rattle.bq_simulate.proofs.StaysOnTimeLemmas.{switched_kept, tasks_run_alone}
 
 -- world and accounts agree, and nothing is past
 abbrev Fits : ℕ → Driver → Book → Type 0

@@ -30,15 +30,15 @@ use Rattle.bq_simulate.specs.Actions.{acted, action_at, action_count, asked_by, 
 use Rattle.bq_simulate.specs.Agreement.{AgreesWith, IsOnTime, ProcessorIsOnTime, RunsOnTime}
 use Rattle.bq_simulate.specs.Kept.{StandsAtAction}
 use Rattle.bq_simulate.specs.GoingWell.{SimulationGoesWell, IsStrayAction}
-use Rattle.bq_simulate.proofs.AccountLemmas.{charged_there}
+use Rattle.bq_simulate.proofs.AccountsReadLemmas.{charged_there}
 use Rattle.bq_simulate.proofs.MeetAgreeLemmas.{advanced_home, agrees_charged, woken_one_home, world_of}
-use Rattle.bq_simulate.proofs.MeetTimeLemmas.{acted_got}
-use Rattle.bq_simulate.proofs.SoundKindLemmas.{sound_kind, sound_times}
-use Rattle.bq_simulate.proofs.StandingLemmas.{AllStand, charged_keeps, else_of, standing_of_places}
-use Rattle.bq_simulate.proofs.StraySwitchLemmas.{no_stray_charge}
+use Rattle.bq_simulate.proofs.MeetOnTimeLemmas.{acted_got}
+use Rattle.bq_simulate.proofs.NoStraySwitchLemmas.{no_stray_charge}
+use Rattle.bq_simulate.proofs.NothingMissedLemmas.{until_is}
+use Rattle.bq_simulate.proofs.SoundWorkloadLemmas.{sound_kind, sound_times}
+use Rattle.bq_simulate.proofs.StandsAtActionLemmas.{AllStand, charged_keeps, else_of, standing_of_places}
+use Rattle.bq_simulate.proofs.StaysOnTimeLemmas.{charged_tasks}
 use Rattle.bq_simulate.proofs.StreamLemmas.{streams_count}
-use Rattle.bq_simulate.proofs.TimeKeptLemmas.{charged_tasks}
-use Rattle.bq_simulate.proofs.TimeLemmas.{until_is}
 use Rattle.bq_disc.specs.declared.clock.TheConstants.{LATEST}
 
 -- The end of a phase

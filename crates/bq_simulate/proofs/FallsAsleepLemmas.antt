@@ -23,10 +23,10 @@ use Rattle.bq_simulate.specs.AgreementLaws.{FailsForMemory, RunsAlone}
 use Rattle.bq_simulate.specs.Drives.{DrivesEvent, runs_now}
 use Rattle.bq_simulate.specs.GoingWell.{FallsAsleep}
 use Rattle.bq_simulate.specs.Simulations.{book_of}
-use Rattle.bq_simulate.proofs.CallLemmas.{calls_fail_for_memory}
+use Rattle.bq_simulate.proofs.CallFaultLemmas.{calls_fail_for_memory}
 use Rattle.bq_simulate.proofs.MeetAgreeLemmas.{block_agrees, world_of}
-use Rattle.bq_simulate.proofs.SoundKindLemmas.{sound_times}
-use Rattle.bq_simulate.proofs.StraySwitchLemmas.{CanSwitch, can_switch_sized, next_counted, no_stray_switch}
+use Rattle.bq_simulate.proofs.NoStraySwitchLemmas.{CanSwitch, can_switch_sized, next_counted, no_stray_switch}
+use Rattle.bq_simulate.proofs.SoundWorkloadLemmas.{sound_times}
 use Rattle.bq_disc.specs.declared.clock.TheConstants.{LATEST}
 
 -- what runs at a processor is read where that is there

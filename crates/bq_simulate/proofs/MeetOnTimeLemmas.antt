@@ -26,9 +26,9 @@ use Rattle.bq_simulate.specs.AgreementLaws.{BookAgrees, MeetingsAreOnTime, RunsA
 use Rattle.bq_simulate.specs.Deeds.{Book, Deed, Happens, DeedsLead, after_act, after_beat, after_look, length_taken}
 use Rattle.bq_simulate.specs.Drives.{count_entered, runs_now, task_pulled}
 use Rattle.bq_simulate.specs.Steps.{AreJustEvents, AreWake, FollowsAction, DeedsMeet, WakesTask, pulls_of}
-use Rattle.bq_simulate.proofs.AccountLemmas.{charged_there, read_kept}
+use Rattle.bq_simulate.proofs.AccountsReadLemmas.{charged_there, read_kept}
 use Rattle.bq_simulate.proofs.MeetAgreeLemmas.{advanced_state, agrees_charged, agrees_further, agrees_processor, meetings_agree, runs_away, sleeps_if_woken, woken_one_home, woken_one_state, world_of}
-use Rattle.bq_simulate.proofs.TimeKeptLemmas.{beaten_kept, carried, charged_on_time, looked_kept, processors_changed, run_of, switched_kept, tasks_changed, tasks_run_alone}
+use Rattle.bq_simulate.proofs.StaysOnTimeLemmas.{beaten_kept, carried, charged_on_time, looked_kept, processors_changed, run_of, switched_kept, tasks_changed, tasks_run_alone}
 use Rattle.bq_disc.specs.declared.clock.TheConstants.{LATEST}
 
 -- accounts that are equal

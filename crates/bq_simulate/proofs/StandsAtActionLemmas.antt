@@ -26,8 +26,8 @@ use Rattle.bq_simulate.specs.Drives.{count_entered, runs_now, task_pulled}
 use Rattle.bq_simulate.specs.Kept.{StandAtActions, StandsAtAction}
 use Rattle.bq_simulate.specs.KeptLaws.{StandingIsKept}
 use Rattle.bq_simulate.specs.Simulations.{periods_of}
-use Rattle.bq_simulate.proofs.AccountLemmas.{changed_at-length}
-use Rattle.bq_simulate.proofs.SoundKindLemmas.{sound_count, sound_kind}
+use Rattle.bq_simulate.proofs.AccountsReadLemmas.{changed_at-length}
+use Rattle.bq_simulate.proofs.SoundWorkloadLemmas.{sound_count, sound_kind}
 
 -- What a change of the accounts keeps
 

@@ -1,4 +1,4 @@
--- Calls that fail only if memory is wanted.
+-- Calls of the loop, each of which fails only if memory runs out.
 use Rattle.std.proofs.Common.{◌≡◌, ℕ, ◌<◌, inl, inr, false, Some, None, refl, sym, subst, arith}
 use Rattle.std.specs.Prelude.{Ok, slice_get}
 use Rattle.bq_parts.specs.declared.event.Event.{Event}
@@ -19,9 +19,9 @@ use Rattle.bq_simulate.specs.Agreement.{IsReadable, can_run}
 use Rattle.bq_simulate.specs.AgreementLaws.{CallsFailForMemory, FailsForMemory, IsDriverReady}
 use Rattle.bq_simulate.specs.Drives.{IsWakeFault, PlacesWoken, reading_of_event}
 use Rattle.bq_simulate.proofs.AdmissionTakenLemmas.{admissions_are_taken}
-use Rattle.bq_simulate.proofs.FaultLemmas.{only_memory_is_wanted}
+use Rattle.bq_simulate.proofs.EventFaultLemmas.{only_memory_is_wanted}
+use Rattle.bq_simulate.proofs.EventTakenLemmas.{blocks_are_taken, installs_are_taken, pulls_are_taken, ticks_are_taken}
 use Rattle.bq_simulate.proofs.MeetAgreeLemmas.{same_discipline, step_of, world_of}
-use Rattle.bq_simulate.proofs.TakenLemmas.{blocks_are_taken, installs_are_taken, pulls_are_taken, ticks_are_taken}
 use Rattle.bq_simulate.proofs.WakeTakenLemmas.{wakes_are_taken}
 
 -- whichever the periods are, they have no part in what is refused

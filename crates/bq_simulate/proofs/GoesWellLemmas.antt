@@ -27,8 +27,8 @@ use Rattle.bq_simulate.specs.KeptLaws.{DeedsLeadIn}
 use Rattle.bq_simulate.specs.GoingWell.{EndsEarly, SimulationGoesWell}
 use Rattle.bq_simulate.specs.Simulations.{GoesOnBy, book_of, with_seed}
 use Rattle.bq_simulate.specs.Steps.{DeedsMeet}
+use Rattle.bq_simulate.proofs.AllIsKeptLemmas.{all_is_kept}
 use Rattle.bq_simulate.proofs.DeedLemmas.{drives-of-deeds}
-use Rattle.bq_simulate.proofs.KeptLemmas.{all_is_kept}
 use Rattle.bq_simulate.proofs.MeetAgreeLemmas.{step_of, world_of}
 
 -- events keep the number of processors

@@ -1,4 +1,4 @@
--- Which faults an event can't have.
+-- Which faults an event cannot have: if it can be read and is not refused, it fails only if memory runs out.
 use Rattle.std.proofs.Common.{ℕ, inl, inr, Option, Some, None, refl, sym, subst, ◌∙◌, arith}
 use Rattle.std.proofs.lemmas.Option.{none-some}
 use Rattle.bq_parts.specs.declared.event.Event.TheVariants.{Admit, Retire, Draw, Install, BeginWake, EndWake, Drain, Tick, Block, Pull}

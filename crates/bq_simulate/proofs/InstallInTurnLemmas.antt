@@ -7,7 +7,7 @@ use Rattle.bq_parts.specs.declared.event.Event.TheVariants.{Install}
 use Rattle.bq_verify.specs.Accepted.{Accepted}
 use Rattle.bq_simulate.specs.Deeds.{Deed}
 use Rattle.bq_simulate.specs.Steps.{AreInstalled, IsInstalled, installs_of}
-use Rattle.bq_simulate.proofs.ProcessorStateLemmas.{each_more}
+use Rattle.bq_simulate.proofs.AllProcessorsLemmas.{each_more}
 
 -- the policy at one processor more
 pub installs_more : (count generation : ℕ) (policy : Accepted)

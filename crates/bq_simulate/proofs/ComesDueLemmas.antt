@@ -11,7 +11,7 @@ use Rattle.bq_workload.specs.Dues.{HasLargest, IsSource, other_than, size_at, un
 use Rattle.bq_workload.specs.Next.{comes_at}
 use Rattle.bq_workload.proofs.ListLemmas.{some_or_none}
 use Rattle.bq_workload.proofs.ProcessorAgreesLemmas.{look-of, look_at, tick-of, tick_at}
-use Rattle.bq_simulate.proofs.TimeLemmas.{until_is}
+use Rattle.bq_simulate.proofs.NothingMissedLemmas.{until_is}
 
 -- what comes until the end, if it comes
 comes_then : (end now : ℕ) (o : Option ℕ) → option_and_then (until end) o ≡ Some now → o ≡ Some now

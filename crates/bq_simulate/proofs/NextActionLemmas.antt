@@ -22,13 +22,13 @@ use Rattle.bq_simulate.specs.KeptLaws.{DeedsLeadIn}
 use Rattle.bq_simulate.specs.GoingWell.{CanFollow, FallsAsleep, SimulationGoesWell}
 use Rattle.bq_simulate.specs.Simulations.{GoesByUnreportedDeeds, book_of, with_seed}
 use Rattle.bq_simulate.specs.Steps.{IsAct}
-use Rattle.bq_simulate.proofs.AccountLemmas.{changed_at-length}
-use Rattle.bq_simulate.proofs.EndLemmas.{acted_home}
+use Rattle.bq_simulate.proofs.AccountsReadLemmas.{changed_at-length}
 use Rattle.bq_simulate.proofs.MeetAgreeLemmas.{agrees_but_it, agrees_charged, agrees_further, woken_one_home, woken_one_state, world_of}
-use Rattle.bq_simulate.proofs.MeetTimeLemmas.{taken_up_on_time}
-use Rattle.bq_simulate.proofs.StandingLemmas.{AllStand, charged_keeps, standing_is_kept, standing_of_places}
-use Rattle.bq_simulate.proofs.TimeKeptLemmas.{charged_tasks, run_of}
-use Rattle.bq_simulate.proofs.WellStepLemmas.{well_early}
+use Rattle.bq_simulate.proofs.MeetOnTimeLemmas.{taken_up_on_time}
+use Rattle.bq_simulate.proofs.NoStrayCallLemmas.{well_early}
+use Rattle.bq_simulate.proofs.PhaseEndLemmas.{acted_home}
+use Rattle.bq_simulate.proofs.StandsAtActionLemmas.{AllStand, charged_keeps, standing_is_kept, standing_of_places}
+use Rattle.bq_simulate.proofs.StaysOnTimeLemmas.{charged_tasks, run_of}
 
 -- a task whose phase has ended at a processor has taken up its next action, which lasts so long, and nothing else was done
 pub record TakesUp (kinds : List TaskKind) (now processor task : ℕ) (action : Option Action) (aim : Option ℕ)

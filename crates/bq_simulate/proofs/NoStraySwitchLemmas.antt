@@ -16,10 +16,10 @@ use Rattle.bq_workload.specs.Strays.{HasNoNext, IsStrayCharge, IsStrayProcessor,
 use Rattle.bq_workload.proofs.ListLemmas.{changed_at-here, changed_at-others, some_or_none}
 use Rattle.bq_simulate.specs.Agreement.{AgreesWith, IsOnTime, ProcessorIsOnTime, RunsOnTime, runner_at}
 use Rattle.bq_simulate.specs.AgreementLaws.{RunsAlone}
-use Rattle.bq_simulate.proofs.AccountLemmas.{Reads, charged_there, reads_charged, reads_switched, same_run}
-use Rattle.bq_simulate.proofs.MeetTimeLemmas.{sized_alone, sized_on_time}
+use Rattle.bq_simulate.proofs.AccountsReadLemmas.{Reads, charged_there, reads_charged, reads_switched, same_run}
+use Rattle.bq_simulate.proofs.MeetOnTimeLemmas.{sized_alone, sized_on_time}
 use Rattle.bq_simulate.proofs.MirrorLemmas.{state_there}
-use Rattle.bq_simulate.proofs.TimeKeptLemmas.{charged_on_time, runner_low, taken_over_tasks, task_there, tasks_run_alone}
+use Rattle.bq_simulate.proofs.StaysOnTimeLemmas.{charged_on_time, runner_low, taken_over_tasks, task_there, tasks_run_alone}
 use Rattle.bq_disc.specs.declared.clock.TheConstants.{LATEST}
 
 -- a time between two things that has a next multiple: 64 bits count it

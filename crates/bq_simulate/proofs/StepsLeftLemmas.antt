@@ -18,8 +18,8 @@ use Rattle.bq_workload.specs.TaskProgress.{lengthened, migrates_to, moved_to, ru
 use Rattle.bq_workload.proofs.ListLemmas.{changed_at-here, changed_at-none, changed_at-others, some_or_none}
 use Rattle.bq_workload.proofs.ProcessorAgreesLemmas.{both, charged-is, counted, since_now}
 use Rattle.bq_simulate.specs.AtOnce.{in_all, steps_left_at, left_in, left_of_processor, left_of_task, steps_ahead, uncounted, uncounted_at}
-use Rattle.bq_simulate.proofs.AccountLemmas.{changed_at-length, charged_there}
-use Rattle.bq_simulate.proofs.InAllLemmas.{in_all-less, in_all-no_more, sum-changed, sum-no_more}
+use Rattle.bq_simulate.proofs.AccountsReadLemmas.{changed_at-length, charged_there}
+use Rattle.bq_simulate.proofs.SumOverAllLemmas.{in_all-less, in_all-no_more, sum-changed, sum-no_more}
 
 -- the next multiple comes later
 pub multiple-past : (between now : ℕ) → 1 ≤ between → now < next_multiple between now

@@ -1,4 +1,4 @@
--- The generations of a driver's world.
+-- The generations of a driver's world: one that is drawn is newer than all that stand, while it is installed, too.
 use Rattle.std.proofs.Common.{ℕ, ◌+◌, ◌-◌, ◌<◌, ◌^◌, [], ◌∷◌, Option, subst, ◌∙◌, sym, arith}
 use Rattle.bq_hooks.specs.declared.hook.Hook.{Hook}
 use Rattle.bq_parts.specs.declared.event.Event.TheVariants.{Draw, Install}
@@ -10,8 +10,8 @@ use Rattle.bq_simulate.specs.declared.driver.Driver.{Driver}
 use Rattle.bq_simulate.specs.Drives.{DrivesEvent, Drives}
 use Rattle.bq_simulate.specs.Kept.{IsNewerFrom}
 use Rattle.bq_simulate.specs.GoingWell.{HasGenerations}
-use Rattle.bq_simulate.proofs.GenerationLemmas.{generations_are_newer}
 use Rattle.bq_simulate.proofs.MeetAgreeLemmas.{step_of, world_of}
+use Rattle.bq_simulate.proofs.WorldGenerationLemmas.{generations_are_newer}
 
 -- one more is drawn, which is newer than all that stand
 pub drawn-newer : (count generation : ℕ) (d e : Driver) (reported : Reported)
