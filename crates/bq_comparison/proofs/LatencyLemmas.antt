@@ -30,10 +30,6 @@ pub takes_start : (start : Option Start) (old new : Tasks) → TakesStart start 
 takes_start None old new h task = h task ∙ sym (append-nil (latencies_of old task))
 takes_start (Some start) old new h task = takes_latency start.task start.latency old new h task
 
--- what is not touched is not reordered
-pub AreReordered-refl : (tasks : Tasks) → AreReordered tasks tasks
-AreReordered-refl tasks = λ task. IsPermutation-refl (latencies_of tasks task)
-
 -- what is reordered twice is reordered
 pub AreReordered-trans : (old mid new : Tasks) → AreReordered old mid → AreReordered mid new → AreReordered old new
 AreReordered-trans old mid new a b =

@@ -1,15 +1,14 @@
 -- Runs, and more of them at the end.
-use Rattle.std.proofs.Common.{◌≡◌, Some, None, Option, ℕ, ◌+◌, ◌<◌, ◌≤◌, List, [], ◌∷◌, ◌++◌, length, map, Ok, Err, Result, IfErr, IfOk, ◌⊎◌, inl, inr, ap, sym, refl, zero, suc, subst, ◌∙◌, arith}
+use Rattle.std.proofs.Common.{◌≡◌, None, ℕ, ◌+◌, ◌<◌, ◌≤◌, List, [], ◌∷◌, ◌++◌, length, map, Ok, Err, Result, IfErr, IfOk, ◌⊎◌, inl, inr, ap, sym, refl, zero, suc, subst, ◌∙◌, arith}
 use Rattle.std.proofs.lemmas.List.{length-append, length-map}
 use Rattle.std.proofs.lemmas.Option.{slice_get_within}
-use Rattle.std.specs.Option.{IsSomeAnd}
 use Rattle.std.specs.Prelude.{⊤}
 use Rattle.bq_workload.specs.declared.workload.Workload.{Workload}
 use Rattle.bq_comparison.specs.declared.naming.Figure.{Figure}
 use Rattle.bq_comparison.specs.declared.runs.RunFigures.{RunFigures}
 use Rattle.bq_comparison.specs.declared.fault.SeedsFault.{SeedsFault}
 use Rattle.bq_comparison.specs.declared.fault.SeedsFault.TheVariants as fault
-use Rattle.bq_comparison.specs.Faults.{EndsInFault, IsNoRun, IsNoSide, IsNoSummary, fault_of_run}
+use Rattle.bq_comparison.specs.Faults.{EndsInFault, IsNoRun, IsNoSummary, fault_of_run}
 use Rattle.bq_experiment.specs.Limits.{IsLonger}
 use Rattle.bq_workload.specs.Soundness.{first_flaw}
 use Rattle.bq_simulate.specs.Faults.{reported_flaw}
@@ -115,17 +114,3 @@ none_comes policies w event_limit figures next before count results why at few a
     let P : ℕ → Type 0 = λ s. IsNoRun policies (with_seed w s) event_limit why in
     let here : next + i ≡ w.machine.seed + (before + i) = omega (arith, at) in
     refused_all policies w event_limit count (before + i) why (omega (arith, low, few)) (subst P here one.1)
-
--- where our side of a comparison is refused, so is the comparison
-pub ours_refused : (policies mine : List Accepted) (others : Option (List Accepted)) (w : Workload) (event_limit count : ℕ) (why : SeedsFault)
-    → mine ≡ policies → IsNoSummary mine w event_limit count why → IsNoSide policies others w event_limit count why
-ours_refused policies mine others w event_limit count why is h = inl (subst (λ (l : List Accepted). IsNoSummary l w event_limit count why) is h)
-
--- where their side of a comparison is refused, so is the comparison
-pub theirs_refused : (policies mine theirs : List Accepted) (others : Option (List Accepted))
-    (w : Workload) (event_limit count : ℕ) (why : SeedsFault)
-    → others ≡ Some theirs → mine ≡ theirs → IsNoSummary mine w event_limit count why
-    → IsNoSide policies others w event_limit count why
-theirs_refused policies mine theirs others w event_limit count why there is h =
-    let P : List Accepted → Type 0 = λ l. IsNoSummary l w event_limit count why in
-    inr (subst (λ (o : Option (List Accepted)). IsSomeAnd o P) (sym there) (subst P is h))

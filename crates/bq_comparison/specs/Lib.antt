@@ -1,5 +1,6 @@
 pub mod Asking
 pub mod Differences
+pub mod Experiments
 pub mod Faults
 pub mod Lines
 pub mod Sides

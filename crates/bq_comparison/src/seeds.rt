@@ -1,9 +1,9 @@
 //! A workload run with several seeds.
 ghost use Rattle.std.specs.Prelude.{◌≡◌, ◌<◌, ◌+◌, ◌≤◌, ◌^◌, ◌⊎◌, vec_len, IfErr, IfOk, OnOk};
-ghost use Rattle.bq_comparison.specs.Faults.{EndsInFault, IsNoRun, IsNoSummary};
-ghost use Rattle.bq_comparison.specs.Seeds.{AreFirstRuns, AreResults, Comes, IsWorkloadRun, IsSeedsSummary};
+ghost use Rattle.bq_comparison.specs.Experiments.{AreResultsOf, AreRunsOf, HasNoSummary, IsNoRunWithSeed, IsRunWithSeed, IsSummaryOf};
+ghost use Rattle.bq_comparison.specs.Faults.{EndsInFault};
+ghost use Rattle.bq_comparison.specs.Seeds.{Comes};
 ghost use Rattle.bq_comparison.specs.declared.fault.SeedsFault.TheVariants.{OutOfMemory};
-ghost use Rattle.bq_simulate.specs.Simulations.{with_seed};
 
 use crate::fault::SeedsFault;
 use crate::gathering::gather;
@@ -65,8 +65,8 @@ pub fn summary<T: Threads + Sync>(
     count: u16,
     shown: &RunsShown<'_>,
 ) -> Result<SeedsSummary, SeedsFault>
-    ensures rows { IfOk result (λ s. IsSeedsSummary experiment.now.policies.now experiment.now.workload.now experiment.now.event_limit count experiment.now.figures.now s.runs.items s.rows.items) }
-    ensures fault { IfErr result (IsNoSummary experiment.now.policies.now experiment.now.workload.now experiment.now.event_limit count) }
+    ensures rows { IfOk result (λ s. IsSummaryOf experiment.now count s.runs.items s.rows.items) }
+    ensures fault { IfErr result (HasNoSummary experiment.now count) }
 {
     let runs = runs(threads, alloc, experiment, count, shown)?;
     let rows = rows(alloc, experiment.figures, runs.as_slice())?;
@@ -81,9 +81,9 @@ fn runs<T: Threads + Sync>(
     count: u16,
     shown: &RunsShown<'_>,
 ) -> Result<Vec<RunFigures>, SeedsFault>
-    ensures runs { IfOk result (λ runs. AreFirstRuns experiment.now.policies.now experiment.now.workload.now experiment.now.event_limit experiment.now.figures.now runs.items) }
+    ensures runs { IfOk result (λ runs. AreRunsOf experiment.now runs.items) }
     ensures count { IfOk result (λ runs. vec_len runs ≡ count) }
-    ensures fault { IfErr result (IsNoSummary experiment.now.policies.now experiment.now.workload.now experiment.now.event_limit count) }
+    ensures fault { IfErr result (HasNoSummary experiment.now count) }
 {
     let first = experiment.workload.machine.seed;
     let others = u64::from(count).saturating_sub(1);
@@ -135,7 +135,7 @@ fn at_once<T: Threads + Sync>(
     count: usize,
 ) -> Result<Results, AllocError>
     requires { first + count ≤ 2 ^ 64 }
-    ensures results { IfOk result (λ results. AreResults experiment.now.policies.now experiment.now.workload.now experiment.now.event_limit experiment.now.figures.now first results.items) }
+    ensures results { IfOk result (λ results. AreResultsOf experiment.now first results.items) }
     ensures count { IfOk result (λ results. vec_len results ≡ count) }
 {
     map_indices(
@@ -153,8 +153,8 @@ fn nth_run(
     first: u64,
     number: usize,
 ) -> Result<RunFigures, SeedsFault>
-    ensures run { IfOk result (IsWorkloadRun experiment.now.policies.now (with_seed experiment.now.workload.now (first + number)) experiment.now.event_limit experiment.now.figures.now) }
-    ensures fault { first + number < 2 ^ 64 → IfErr result (IsNoRun experiment.now.policies.now (with_seed experiment.now.workload.now (first + number)) experiment.now.event_limit) }
+    ensures run { IfOk result (IsRunWithSeed experiment.now (first + number)) }
+    ensures fault { first + number < 2 ^ 64 → IfErr result (IsNoRunWithSeed experiment.now (first + number)) }
 {
     let seed = first
         .checked_add(number as u64)
@@ -175,8 +175,8 @@ fn add_all(runs: &mut Vec<RunFigures>, results: Results) -> Result<(), SeedsFaul
 
 /// One run, with this seed in place of the workload's own.
 fn run(alloc: Global, experiment: &Experiment<'_>, seed: u64) -> Result<RunFigures, SeedsFault>
-    ensures run { IfOk result (IsWorkloadRun experiment.now.policies.now (with_seed experiment.now.workload.now seed) experiment.now.event_limit experiment.now.figures.now) }
-    ensures fault { IfErr result (IsNoRun experiment.now.policies.now (with_seed experiment.now.workload.now seed) experiment.now.event_limit) }
+    ensures run { IfOk result (IsRunWithSeed experiment.now seed) }
+    ensures fault { IfErr result (IsNoRunWithSeed experiment.now seed) }
 {
     let Experiment {
         workload,

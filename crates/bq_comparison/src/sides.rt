@@ -1,7 +1,8 @@
 //! The two sides of a comparison.
-ghost use Rattle.std.specs.Prelude.{◌≡◌, IfErr, IfOk, length, option_map};
-ghost use Rattle.bq_comparison.specs.Faults.{IsNoSide, IsNoSummary};
-ghost use Rattle.bq_comparison.specs.Sides.{IsComparison, IsOtherSide, size_of_machine};
+ghost use Rattle.std.specs.Prelude.{◌≡◌, IfErr, IfOk, length};
+ghost use Rattle.bq_comparison.specs.Experiments.{HasNoSummary, IsSideOf};
+ghost use Rattle.bq_comparison.specs.Faults.{IsNoSide};
+ghost use Rattle.bq_comparison.specs.Sides.{IsComparison, other_policies, size_of_machine};
 
 use crate::seeds::{Experiment, RunsShown};
 use crate::{
@@ -51,8 +52,8 @@ pub fn compare<T: Threads + Sync>(
     others: Option<&Policies>,
     plan: &RunPlan<'_>,
 ) -> Result<Sides, SeedsFault>
-    ensures sides { IfOk result (IsComparison policies.now.loaded (option_map (λ p. p.now.loaded) others.entry) workload.now plan.now.event_limit plan.now.seeds) }
-    ensures fault { IfErr result (IsNoSide policies.now.loaded (option_map (λ p. p.now.loaded) others.entry) workload.now plan.now.event_limit plan.now.seeds) }
+    ensures sides { IfOk result (IsComparison policies.now.loaded (other_policies others.entry) workload.now plan.now.event_limit plan.now.seeds) }
+    ensures fault { IfErr result (IsNoSide policies.now.loaded (other_policies others.entry) workload.now plan.now.event_limit plan.now.seeds) }
 {
     let figures = all_figures(alloc, size_of_machine(workload))?;
     let ours = Experiment {
@@ -92,8 +93,8 @@ fn other_side<T: Threads + Sync>(
     ours: &[RunFigures],
 ) -> Result<OtherSide, SeedsFault>
     requires { length ours.now ≡ count }
-    ensures side { IfOk result (IsOtherSide experiment.now.policies.now experiment.now.workload.now experiment.now.event_limit count experiment.now.figures.now ours.now) }
-    ensures fault { IfErr result (IsNoSummary experiment.now.policies.now experiment.now.workload.now experiment.now.event_limit count) }
+    ensures side { IfOk result (IsSideOf experiment.now count ours.now) }
+    ensures fault { IfErr result (HasNoSummary experiment.now count) }
 {
     let SeedsSummary { runs, rows } = summary(threads, alloc, experiment, count, shown)?;
     let paired = paired_rows(alloc, experiment.figures.len(), ours, runs.as_slice())?;

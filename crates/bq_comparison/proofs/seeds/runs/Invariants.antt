@@ -1,10 +1,10 @@
 use Rattle.std.proofs.Common.{◌≤◌, ◌-◌, length}
-use Rattle.bq_comparison.specs.Seeds.{AreFirstRuns}
+use Rattle.bq_comparison.specs.Experiments.{AreRunsOf}
 use Rattle.bq_comparison.proofs.seeds.runs.Given as goal
 
 abbrev pub invariant-numbers : goal.invariant-numbers
 invariant-numbers g l = record {
-  runs_are : AreFirstRuns l.experiment.policies.now l.experiment.workload.now l.experiment.event_limit l.experiment.figures.now l.runs.items;
+  runs_are : AreRunsOf l.experiment l.runs.items;
   low : length l.runs.items ≤ l.count;
 }
 
