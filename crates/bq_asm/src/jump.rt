@@ -62,8 +62,8 @@ pub fn set_jumps<'a>(
     jumps: &[Jump<'a>],
     insns: &mut [Insn],
 ) -> Result<(), usize>
-    requires labels { All (λ e. e.1 ≤ 4096) labels.now.entries }
-    requires jumps { All (λ j. (j.next ≤ 4096) × (j.index < length insns.old)) jumps.now }
+    requires labels { All (λ e. e.1 ≤ SLOTS) labels.now.entries }
+    requires jumps { All (λ j. (j.next ≤ SLOTS) × (j.index < length insns.old)) jumps.now }
     ensures ok { OnOk result (with_jumps (places_of labels.now) (map awaited_by jumps.now) insns.old ≡ Ok insns.new) }
     ensures missing { IfErr result (λ line. with_jumps (places_of labels.now) (map awaited_by jumps.now) insns.old ≡ Err line) }
 {
@@ -79,7 +79,7 @@ pub fn set_jumps<'a>(
 
 /// Returns the slot at which a label is set; `None` if it is set nowhere.
 fn slot_of<'a>(labels: &IndexMap<&'a [u8], usize>, label: &'a [u8]) -> Option<usize>
-    requires { All (λ e. e.1 ≤ 4096) labels.now.entries }
+    requires { All (λ e. e.1 ≤ SLOTS) labels.now.entries }
     ensures found { result ≡ lookup (bytes_eq label.entry.now) (places_of labels.now) }
     ensures near { IfSome result (λ slot. slot ≤ SLOTS) }
 {
@@ -88,8 +88,8 @@ fn slot_of<'a>(labels: &IndexMap<&'a [u8], usize>, label: &'a [u8]) -> Option<us
 
 /// Returns the distance from one slot to another, in slots.
 fn distance_between(from: usize, to: usize) -> i16
-    requires from { from ≤ 4096 }
-    requires to { to ≤ 4096 }
+    requires from { from ≤ SLOTS }
+    requires to { to ≤ SLOTS }
     ensures { result ≡ pos to -ℤ pos from }
 {
     (to as i16) - (from as i16)

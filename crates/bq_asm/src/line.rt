@@ -41,7 +41,7 @@ fn comment_at(line: &[u8]) -> Option<usize>
 
 /// Returns the words of a text without comments, or `None` if there are more than four.
 pub fn words(text: &[u8]) -> Option<ArrayVec<&[u8], WORDS>>
-    ensures { MatchOption result (4 < length (words_between_blanks text.now)) (λ found. word_texts found.items ≡ words_between_blanks text.now) }
+    ensures { MatchOption result (WORDS < length (words_between_blanks text.now)) (λ found. word_texts found.items ≡ words_between_blanks text.now) }
 {
     let mut found = ArrayVec::new();
     let mut rest = text;
