@@ -57,6 +57,7 @@ pub(crate) fn difference(
     None
 }
 
+/// Tells whether a hook is given and another one is stated.
 fn hooks_differ(given: Option<Hook>, stated: Option<Hook>) -> bool
     ensures { ReportsDifference given stated result }
 {
@@ -66,6 +67,7 @@ fn hooks_differ(given: Option<Hook>, stated: Option<Hook>) -> bool
     }
 }
 
+/// Tells whether a format is given and another one is stated.
 fn formats_differ(given: Option<Version>, stated: Option<Version>) -> bool
     ensures { ReportsDifference given stated result }
 {
@@ -75,6 +77,7 @@ fn formats_differ(given: Option<Version>, stated: Option<Version>) -> bool
     }
 }
 
+/// Tells whether maps are given and maps of other shapes are stated.
 fn maps_differ(given: Option<&[MapShape]>, stated: Option<&[MapShape]>) -> bool
     ensures { ReportsDifference (option_map (λ b. b.now) given.entry) (option_map (λ b. b.now) stated.entry) result }
 {

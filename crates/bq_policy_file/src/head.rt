@@ -75,6 +75,7 @@ impl Head {
         }
     }
 
+    /// Takes the hook that the line of this number states; refuses a second hook, and a word that names none.
     fn take_hook(&mut self, number: usize, value: &[u8]) -> Result<(), HeadFault>
         ensures ok { OnOk result (TakesValue self.old self.new Key.Hook value.now) }
         ensures fault { IfErr result (IsRefusedValue self.old number Key.Hook value.now) }
@@ -89,6 +90,7 @@ impl Head {
         Ok(())
     }
 
+    /// Takes the maps that the line of this number states; refuses maps that are stated twice, and a value that names no shapes.
     fn take_maps(&mut self, alloc: Global, number: usize, value: &[u8]) -> Result<(), HeadFault>
         ensures ok { OnOk result (TakesValue self.old self.new Key.Maps value.now) }
         ensures fault { IfErr result (IsRefusedValue self.old number Key.Maps value.now) }
@@ -103,6 +105,7 @@ impl Head {
         Ok(())
     }
 
+    /// Takes the format that the line of this number states; refuses a second format, and a word that names none.
     fn take_format(&mut self, number: usize, value: &[u8]) -> Result<(), HeadFault>
         ensures ok { OnOk result (TakesValue self.old self.new Key.Format value.now) }
         ensures fault { IfErr result (IsRefusedValue self.old number Key.Format value.now) }
