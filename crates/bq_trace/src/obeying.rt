@@ -1,10 +1,9 @@
 //! What the lines of a trace do with its machine, and what is reported of them.
-ghost use Rattle.std.specs.Prelude.{◌≡◌, ◌↔◌, IsTrue, ℕ, List, Result, Err, is_ok, IfOk, OnOk};
-ghost use Rattle.std.specs.Borrow.{Bor};
-ghost use Rattle.std.specs.Option.{option_map};
+ghost use Rattle.std.specs.Prelude.{◌≡◌, ◌↔◌, IsTrue, Result, Err, is_ok, IfOk, OnOk};
 ghost use Rattle.bq_parts.specs.declared.reply.Reply.{Reply};
 ghost use Rattle.bq_parts.specs.declared.refusal.Refusal.{Refusal};
 ghost use Rattle.bq_parts.specs.declared.refusal.Refusal.TheVariants as no;
+ghost use Rattle.bq_trace.specs.Borrowed.{optional_bytes};
 ghost use Rattle.bq_trace.specs.TraceEvents.{Gets};
 ghost use Rattle.bq_trace.specs.Reporting.{Happens, WakeHappens, Reports};
 
@@ -80,7 +79,7 @@ impl AnyCore {
         sink: &mut S,
     ) -> Result<bool, AllocError>
         ensures { IfOk result (λ bad. Gets S.takes sink.old sink.new
-            (λ reported. Reports (Phase.Running self.old) number (option_map (λ (l : Bor (List ℕ)). l.now) line.entry) reading.entry reported (Phase.Running self.new) bad)) }
+            (λ reported. Reports (Phase.Running self.old) number (optional_bytes line.entry) reading.entry reported (Phase.Running self.new) bad)) }
     {
         match reading {
             LineReading::Skipped => report_skipped(number, line, sink),

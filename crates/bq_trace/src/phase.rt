@@ -1,8 +1,7 @@
 //! How far a trace is.
-ghost use Rattle.std.specs.Prelude.{◌≡◌, ℕ, List, IfOk};
-ghost use Rattle.std.specs.Borrow.{Bor};
-ghost use Rattle.std.specs.Option.{option_map};
+ghost use Rattle.std.specs.Prelude.{◌≡◌, IfOk};
 ghost use Rattle.bq_lines.specs.Lines.{reading_of_short_line};
+ghost use Rattle.bq_trace.specs.Borrowed.{optional_bytes};
 ghost use Rattle.bq_trace.specs.TraceEvents.{Gets};
 ghost use Rattle.bq_trace.specs.Reporting.{Reports};
 
@@ -40,7 +39,7 @@ impl Phase {
     ) -> Result<bool, AllocError>
         requires { self.now ≡ Phase.Waiting }
         ensures { IfOk result (λ bad. Gets S.takes sink.old sink.new
-            (λ reported. Reports Phase.Waiting number (option_map (λ (l : Bor (List ℕ)). l.now) line.entry) reading.now reported self.new bad)) }
+            (λ reported. Reports Phase.Waiting number (optional_bytes line.entry) reading.now reported self.new bad)) }
     {
         match reading {
             LineReading::Skipped => report_skipped(number, line, sink),
@@ -69,7 +68,7 @@ impl Phase {
         sink: &mut S,
     ) -> Result<bool, AllocError>
         ensures { IfOk result (λ bad. Gets S.takes sink.old sink.new
-            (λ reported. Reports self.old number (option_map (λ (l : Bor (List ℕ)). l.now) line.entry) (reading_of_short_line (option_map (λ (l : Bor (List ℕ)). l.now) line.entry)) reported self.new bad)) }
+            (λ reported. Reports self.old number (optional_bytes line.entry) (reading_of_short_line (optional_bytes line.entry)) reported self.new bad)) }
     {
         match self {
             Phase::Over => Ok(false),

@@ -1,7 +1,6 @@
 //! The state of a trace, line by line.
-ghost use Rattle.std.specs.Prelude.{◌≡◌, ℕ, List, OnOk};
-ghost use Rattle.std.specs.Borrow.{Bor};
-ghost use Rattle.std.specs.Option.{option_map};
+ghost use Rattle.std.specs.Prelude.{◌≡◌, OnOk};
+ghost use Rattle.bq_trace.specs.Borrowed.{optional_bytes};
 ghost use Rattle.bq_trace.specs.TraceEvents.{Gets};
 
 use crate::phase::Phase;
@@ -43,7 +42,7 @@ impl Progress {
         sink: &mut S,
     ) -> Result<(), AllocError>
         ensures { OnOk result (Gets S.takes sink.old sink.new
-            (λ reported. ReportsShortLine self.old (option_map (λ (l : Bor (List ℕ)). l.now) line.entry) reported self.new)) }
+            (λ reported. ReportsShortLine self.old (optional_bytes line.entry) reported self.new)) }
     {
         self.line = self.line.saturating_add(1);
         let bad = self.phase.answer(alloc, self.line, line, sink)?;

@@ -1,8 +1,6 @@
 //! One event of a line, reported to a sink.
-ghost use Rattle.std.specs.Prelude.{◌≡◌, ◌∷◌, [], ℕ, List, true, false, OnOk, IfOk};
-ghost use Rattle.std.specs.Borrow.{Bor};
-ghost use Rattle.std.specs.Option.{option_map};
-ghost use Rattle.bq_trace.specs.Borrowed.{event_of};
+ghost use Rattle.std.specs.Prelude.{◌≡◌, ◌∷◌, [], true, false, OnOk, IfOk};
+ghost use Rattle.bq_trace.specs.Borrowed.{event_of, optional_bytes};
 ghost use Rattle.bq_trace.specs.TraceEvents.{Gets, Bad};
 ghost use Rattle.bq_trace.specs.Reporting.{skips};
 
@@ -24,7 +22,7 @@ pub fn report_skipped<S: Sink>(
     line: Option<&[u8]>,
     sink: &mut S,
 ) -> Result<bool, AllocError>
-    ensures { IfOk result (λ bad. (bad ≡ false) × Gets S.takes sink.old sink.new (λ reported. reported ≡ skips number (option_map (λ (l : Bor (List ℕ)). l.now) line.entry))) }
+    ensures { IfOk result (λ bad. (bad ≡ false) × Gets S.takes sink.old sink.new (λ reported. reported ≡ skips number (optional_bytes line.entry))) }
 {
     if let Some(line) = line {
         sink.take(number, &TraceEvent::Skipped { line })?;
@@ -38,7 +36,7 @@ pub fn report_bad<S: Sink>(
     line: Option<&[u8]>,
     sink: &mut S,
 ) -> Result<bool, AllocError>
-    ensures { IfOk result (λ bad. (bad ≡ true) × Gets S.takes sink.old sink.new (λ reported. reported ≡ (number, Bad (option_map (λ (l : Bor (List ℕ)). l.now) line.entry)) ∷ [])) }
+    ensures { IfOk result (λ bad. (bad ≡ true) × Gets S.takes sink.old sink.new (λ reported. reported ≡ (number, Bad (optional_bytes line.entry)) ∷ [])) }
 {
     sink.take(number, &TraceEvent::Bad { line })?;
     Ok(true)
