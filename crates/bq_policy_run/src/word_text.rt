@@ -1,10 +1,7 @@
 //! The rule's word on the answer of a run.
-ghost use Rattle.std.specs.Prelude.{◌≡◌, ◌≢◌, ◌≤◌, length, IfOk, string_bytes};
-ghost use Rattle.bq_policy_run.specs.Permitting.{permission_of};
+ghost use Rattle.std.specs.Prelude.{◌≢◌, ◌≤◌, length, IfOk, string_bytes};
 ghost use Rattle.bq_policy_run.specs.declared.permitted.Permission.TheVariants.{NotPermitted, NotShown, Permitted};
-ghost use Rattle.bq_policy_run.specs.Judging.{BeginsWithWord};
-ghost use Rattle.bq_hooks.specs.Hooks.{context_length_of};
-ghost use Rattle.bq_hooks.specs.declared.hook.Version.{Version};
+ghost use Rattle.bq_policy_run.specs.Judging.{BeginsWithPermission, BeginsWithWord};
 
 use crate::permitted::NOBODY;
 use crate::{PLACE_SHOWN, Permission, permission_of, place_shown};
@@ -18,7 +15,7 @@ pub(crate) fn word_text(
     context: &[u8],
     r0: u64,
 ) -> Result<String, AllocError>
-    ensures { IfOk result (λ text. (version : Version) → length context.now ≡ context_length_of hook version → BeginsWithWord (permission_of hook context.now r0) (string_bytes text)) }
+    ensures { IfOk result (λ text. BeginsWithPermission hook context.now r0 (string_bytes text)) }
 {
     let word = permission_of(hook, context, r0);
     match hook {
