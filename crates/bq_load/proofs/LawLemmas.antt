@@ -60,8 +60,8 @@ no_image_is_faulty bytes v h shapes program f fits image b =
     no_fault bytes (record { version = v; hook = h; shapes = shapes; slots = image.slots }) program f image.framed
     image.some image.most (fault_again bytes f fits b)
 
--- two faults that reading found
-same_found : (bytes : List ℕ) (f g : LoadFault) → frame_at bytes ≡ Err f → frame_at bytes ≡ Err g → f ≡ g
+-- two faults that reading found are the same
+pub same_found : (bytes : List ℕ) (f g : LoadFault) → frame_at bytes ≡ Err f → frame_at bytes ≡ Err g → f ≡ g
 same_found bytes f g e d = cc
 
 -- a fault of the program's length is the only one found, and any two faults that are found are the same:

@@ -28,7 +28,7 @@ use Rattle.bq_load.specs.Laws.{AreBytes, IsAnswer, OneAnswer, OneLoaded}
 use Rattle.bq_load.specs.Layout.{Header, IsFramed}
 use Rattle.bq_load.specs.Reading.{frame_at}
 use Rattle.bq_load.proofs.FaultLemmas.{fault_again}
-use Rattle.bq_load.proofs.LawLemmas.{framed_does_not_fail, one_image}
+use Rattle.bq_load.proofs.LawLemmas.{framed_does_not_fail, one_image, same_found}
 use Rattle.bq_load.proofs.UniqueLemmas.{one_frame}
 use Rattle.bq_hooks.specs.declared.hook.Hook.{Hook}
 use Rattle.bq_hooks.specs.declared.hook.Version.{Version}
@@ -65,7 +65,7 @@ no_faulty bytes insns slot cause b p =
     lengths.no_program_is_refused insns slot cause p.well_formed p.numbers
     (subst (λ (x : List ℕ). IsProgramFault x (At slot cause)) same.1 b.faulty)
 
--- a program has one fault, and reading stops at one:
+-- a program has one fault
 one_faulty : (bytes : List ℕ) (s t : ℕ) (c d : DecodeCause) → HasFaultyProgram bytes s c → HasFaultyProgram bytes t d
     → fault.Decode t d ≡ fault.Decode s c
 one_faulty bytes s t c d a b =
@@ -73,16 +73,13 @@ one_faulty bytes s t c d a b =
     let one = insn.one_fault b.program t s d c b.faulty (subst (λ (x : List ℕ). IsProgramFault x (At s c)) same.1 a.faulty) in
     ap (λ (n : ℕ). fault.Decode n d) one.0 ∙ ap (λ (k : DecodeCause). fault.Decode s k) one.1
 
-same_stop : (bytes : List ℕ) (f g : LoadFault) → frame_at bytes ≡ Err f → frame_at bytes ≡ Err g → g ≡ f
-same_stop bytes f g e d = cc
-
 -- the answer is that fault, or lack of memory
 abbrev IsOnly : LoadFault → Result Accepted LoadFault → Type 0
 IsOnly f answer = (answer ≡ Err f) ⊎ (answer ≡ Err fault.OutOfMemory)
 
 -- where reading stops at a fault, a fault that is answered is that one
 stopped : (bytes : List ℕ) (f g : LoadFault) → Stops bytes f → Stops bytes g ⊎ Stands bytes → IsOnly f (Err g)
-stopped bytes f g at (inl other) = inl (ap (λ (x : LoadFault). Err x) (same_stop bytes f g at.at other.at))
+stopped bytes f g at (inl other) = inl (ap (λ (x : LoadFault). Err x) (same_found bytes g f other.at at.at))
 stopped bytes f g at (inr there) = absurd (framed_does_not_fail bytes there.header there.program f there.framed at.at)
 
 -- reading stops at a fault: it is the answer

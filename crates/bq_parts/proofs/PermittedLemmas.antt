@@ -14,10 +14,16 @@ use Rattle.bq_installed.specs.Installed.{InstalledFacts}
 use Rattle.bq_hooks.specs.Contexts.{nobody, or_nobody}
 use Rattle.bq_disc.specs.Masks.{allows}
 use Rattle.bq_hooks.specs.Permitted.{may_place, may_pull, task_numbered}
+use Rattle.bq_hooks.specs.Settled.{settled as chosen}
 use Rattle.bq_hooks.proofs.PermittedLemmas.{settled_is_permitted}
 use Rattle.bq_parts.specs.Processors.{Processor, count_of_id, size_of, HasEachOnce}
 use Rattle.bq_parts.specs.Choices.{PolicySemantics, SettledChoice, SettlesBy, Settles, SettlesPull, own_pull, unasked}
 use Rattle.bq_parts.proofs.CountLemmas.{one}
+
+-- an answer is the choice where it is permitted, and else the own choice is
+pub answer_is_permitted : (permitted : ℕ → Bool) (r0 own : ℕ)
+    → permitted own ≡ true → permitted (chosen permitted (Some r0) own).choice ≡ true
+answer_is_permitted permitted r0 own o = settled_is_permitted permitted (Some r0) own o
 
 -- if the own choice is permitted, what is settled is, with a policy or without one
 settles_by : (s : PolicySemantics) (policy : Option Accepted) (context : Version → List ℕ) (installed : InstalledFacts)
@@ -26,7 +32,7 @@ settles_by : (s : PolicySemantics) (policy : Option Accepted) (context : Version
     → permitted settled.choice ≡ true
 settles_by s None context installed now processor permitted own settled o h = ap (λ (x : SettledChoice). permitted x.choice) h ∙ o
 settles_by s (Some policy) context installed now processor permitted own settled o h =
-    ap permitted h.choice ∙ settled_is_permitted permitted (Some h.r0) own o
+    ap permitted h.choice ∙ answer_is_permitted permitted h.r0 own o
 
 -- where the own choice is permitted, what is settled is
 pub settled_permitted : (s : PolicySemantics) (context : Version → List ℕ) (installed : InstalledFacts) (now processor : ℕ)

@@ -97,17 +97,11 @@ module _ (slots : List (Option Insn)) (most : List (Option ℕ)) (faultless : Is
     one_more from insn here counter = rw (here, asks_of insn counter) refl
 
     -- the counts never fall along an edge, grow at each counter call, and are below 16 at each counter call
-    pub made_by : BoundsCalls slots (most_calls_at most)
-    made_by = record {
+    pub most_calls_are_made : BoundsCalls slots (most_calls_at most)
+    most_calls_are_made = record {
       kept = λ from to edge. let more = along from to edge in omega arith;
       risen = λ from to edge.
           let more = along from to (record { insn = edge.insn; here = edge.here; leaves = edge.leaves }) in
           let one = one_more from edge.insn edge.here edge.asks in omega arith;
       few = λ from to edge. not_late from edge.insn edge.here edge.asks (cases_lt (most_calls_at most from) 16);
     }
-
--- in a program without faults the most calls on a path to a slot never fall along an edge, and stay within the limit
-pub most_calls_are_made : (slots : List (Option Insn)) (most : List (Option ℕ))
-    → IsGraphSound slots → IsFaultless slots → ((k : ℕ) → IsMostCalls slots k (slice_index_or most k None))
-    → BoundsCalls slots (most_calls_at most)
-most_calls_are_made slots most sound faultless counted = made_by slots most faultless counted sound
