@@ -1,13 +1,14 @@
 //! A machine at the start.
-ghost use Rattle.std.specs.Prelude.{◌≡◌, ◌≤◌, [], All, IfOk, length};
+ghost use Rattle.std.specs.Prelude.{◌≡◌, ◌≤◌, IfOk, length};
 ghost use Rattle.bq_history.specs.Tables.{table_of};
 ghost use Rattle.bq_shared.specs.Calls.{fresh_callers};
 ghost use Rattle.bq_shared.specs.Prepared.{ArePrepared};
+ghost use Rattle.bq_recording.specs.Queues.{AreFresh};
 
 use crate::clock::Clock;
 use crate::machine::Machine;
 use bq_disc::RunQueue;
-use bq_disc::limits::{FIRST_MARK, PROCESSORS};
+use bq_disc::limits::PROCESSORS;
 use bq_history::Naming;
 use bq_recording::{MachineSeat, Opening, Prepared, no_tasks};
 use bq_shared::{Counting, UnnamedCounters};
@@ -53,7 +54,7 @@ impl<Q: RunQueue + Drop, K: Clock + Drop, N: Naming + Counting, const P: usize> 
         requires counters { table_of unnamed ≡ N.counters }
         requires counts { ArePrepared P seat_count prepared unnamed }
         requires many { length queues.items ≡ P }
-        requires empty { All (λ q. (Q.members q ≡ []) × (Q.last_mark q ≡ FIRST_MARK)) queues.items }
+        requires empty { AreFresh Q.members Q.last_mark queues.items }
         ensures seats { IfOk result (λ r. r.1.items ≡ fresh_callers 0 seat_count) }
         ensures history { IfOk result (λ r. (r.0.recorder.history.setup ≡ P) × (r.0.recorder.history.callers ≡ seat_count)) }
     {

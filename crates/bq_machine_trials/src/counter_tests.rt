@@ -1,10 +1,10 @@
 //! Counters that four threads add to.
 
-use crate::asking::Request;
 use crate::asserting::{is_number, is_true};
 use crate::gate::Point;
 use crate::images::{ADDS, READS};
 use crate::play::{Script, Step};
+use crate::requests::Request;
 use crate::script::{AllPlayed, run_script};
 use crate::{admit, life};
 use bq_bpf::CounterCall;

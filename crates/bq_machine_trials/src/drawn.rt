@@ -1,7 +1,7 @@
 //! Calls that are drawn.
 
-use crate::asking::{Request, ask};
 use crate::images::{ADDS, COUNTING, IN_TURN, OWN_PULL};
+use crate::requests::{Request, call};
 use bq_disc::RunQueue;
 use bq_history::Naming;
 use bq_hooks::Hook;
@@ -115,7 +115,7 @@ fn draw<Q: RunQueue + Drop, N: Naming + Counting, R: Wait>(
             true
         }
         _ => {
-            let answer = ask(rt, alloc, machine, seat, request(number, other));
+            let answer = call(rt, alloc, machine, seat, request(number, other));
             !matches!(answer, Err(Refusal::OutOfMemory))
         }
     }

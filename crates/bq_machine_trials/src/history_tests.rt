@@ -1,9 +1,9 @@
 //! Four seats on four threads share one history. The numbers follow from how many calls there are.
 
-use crate::asking::Request;
 use crate::asserting::{is_number, is_true};
 use crate::gate::Point;
 use crate::play::{Script, Step};
+use crate::requests::Request;
 use crate::script::{AllPlayed, run_script};
 use crate::{admit, life};
 use bq_machine::Admission;

@@ -1,11 +1,11 @@
 //! A call is held in its clock reading, or where it calls its queue, until another seat has its answers.
 
 use crate::admit;
-use crate::asking::Request;
 use crate::asserting::is_true;
 use crate::gate::Point;
 use crate::images::{ALWAYS, SUMS, ZERO};
 use crate::play::{Play, Script, Step};
+use crate::requests::Request;
 use crate::script::{AllPlayed, run_script};
 use bq_machine::Admission;
 use std::alloc::Global;

@@ -5,8 +5,6 @@
 #![tactic(auto)]
 
 #[cfg(test)]
-mod asking;
-#[cfg(test)]
 mod asserting;
 #[cfg(test)]
 mod counter_tests;
@@ -36,6 +34,8 @@ mod player;
 mod race_tests;
 #[cfg(test)]
 mod replayed;
+#[cfg(test)]
+mod requests;
 #[cfg(test)]
 mod script;
 #[cfg(test)]

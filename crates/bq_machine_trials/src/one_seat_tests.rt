@@ -5,9 +5,9 @@ ghost use Rattle.bq_history.specs.Tables.{table_of};
 ghost use Rattle.bq_shared.specs.Prepared.{ArePrepared};
 
 use crate::admit;
-use crate::asking::{Request, ask};
 use crate::asserting::{is_number, is_true};
 use crate::images::ZERO;
+use crate::requests::{Request, call};
 use bq_cfs::CfsQueue;
 use bq_disc::limits::PROCESSORS;
 use bq_history::{Naming, Receipt};
@@ -50,9 +50,9 @@ enum Answer {
     Placed,
 }
 
-/// What is asked, and how it has to be answered.
+/// A call, and how it has to be answered.
 #[derive(Clone, Copy)]
-enum Asked {
+enum Expected {
     /// The call is refused so, and does not come into the history.
     Refused(Request, Refusal),
     /// The last receipt of the call has this place and this answer.
@@ -67,16 +67,16 @@ enum Asked {
     Cut,
 }
 
-/// The number of a machine's processors, what is asked of it as it opens, and how many events its history then has.
-type Row = (u64, &'static [Asked], u64);
+/// The number of a machine's processors, the calls of it as it opens, and how many events its history then has.
+type Row = (u64, &'static [Expected], u64);
 
 static ROWS: [Row; 4] = [
     // nothing runs, and there is no processor 2
     (
         2,
         &[
-            Asked::Answered(Request::Block { processor: 0 }, 0, Answer::Idle),
-            Asked::Refused(Request::Tick { processor: 2 }, Refusal::NoProcessor),
+            Expected::Answered(Request::Block { processor: 0 }, 0, Answer::Idle),
+            Expected::Refused(Request::Tick { processor: 2 }, Refusal::NoProcessor),
         ],
         1,
     ),
@@ -84,14 +84,14 @@ static ROWS: [Row; 4] = [
     (
         2,
         &[
-            Asked::Refused(
+            Expected::Refused(
                 Request::Pull {
                     processor: 0,
                     from: 0,
                 },
                 Refusal::SameProcessor,
             ),
-            Asked::Answered(
+            Expected::Answered(
                 Request::Pull {
                     processor: 1,
                     from: 0,
@@ -106,17 +106,17 @@ static ROWS: [Row; 4] = [
     (
         2,
         &[
-            Asked::Loaded {
+            Expected::Loaded {
                 image: Some(&ZERO),
                 place: 0,
                 number: 1,
             },
-            Asked::Loaded {
+            Expected::Loaded {
                 image: None,
                 place: 3,
                 number: 2,
             },
-            Asked::Cut,
+            Expected::Cut,
         ],
         6,
     ),
@@ -124,15 +124,15 @@ static ROWS: [Row; 4] = [
     (
         3,
         &[
-            Asked::Loaded {
+            Expected::Loaded {
                 image: Some(&ZERO),
                 place: 0,
                 number: 1,
             },
-            Asked::Refused(Request::Tick { processor: 3 }, Refusal::NoProcessor),
-            Asked::Refused(admit!(1, 8), Refusal::EmptyMask),
-            Asked::Answered(admit!(1, 12), 4, Answer::Admitted),
-            Asked::Answered(
+            Expected::Refused(Request::Tick { processor: 3 }, Refusal::NoProcessor),
+            Expected::Refused(admit!(1, 8), Refusal::EmptyMask),
+            Expected::Answered(admit!(1, 12), 4, Answer::Admitted),
+            Expected::Answered(
                 Request::Wake {
                     processor: 0,
                     task: 1,
@@ -187,26 +187,28 @@ fn is_drawn(receipt: &Receipt<Record>, place: u64, number: u64) -> bool {
         && matches!(reply, Ok(Reply::Drawn { generation }) if generation == number)
 }
 
-/// Whether what is asked is answered as it has to be.
+/// Whether the call is answered as it has to be.
 fn is_answered<N: Naming + Counting, R: Wait, const P: usize>(
     rt: &R,
     alloc: Global,
     machine: &Single<N, P>,
     seat: &mut MachineSeat<N>,
-    asked: Asked,
+    expected: Expected,
 ) -> bool {
-    match asked {
-        Asked::Refused(request, wanted) => {
-            matches!(ask(rt, alloc, machine, seat, request), Err(refusal) if refusal == wanted)
+    match expected {
+        Expected::Refused(request, wanted) => {
+            matches!(call(rt, alloc, machine, seat, request), Err(refusal) if refusal == wanted)
         }
-        Asked::Answered(request, place, answer) => match ask(rt, alloc, machine, seat, request) {
+        Expected::Answered(request, place, answer) => match call(
+            rt, alloc, machine, seat, request,
+        ) {
             Ok(receipts) => match &receipts.second {
                 Some(second) => says(second, place, answer),
                 None => says(&receipts.first, place, answer),
             },
             Err(_) => false,
         },
-        Asked::Loaded {
+        Expected::Loaded {
             image,
             place,
             number,
@@ -218,23 +220,23 @@ fn is_answered<N: Naming + Counting, R: Wait, const P: usize>(
             }
             Err(_) => false,
         },
-        Asked::Cut => {
+        Expected::Cut => {
             let cut = machine.load_all(rt, alloc, seat, Hook::Preempt, Some(&ZERO[..27]));
             matches!(cut, Err(LoadRefused::Fault(LoadFault::Cut)))
         }
     }
 }
 
-/// All that is asked is answered as it has to be.
+/// Each call is answered as it has to be.
 fn are_answered<N: Naming + Counting, R: Abort + Wait, const P: usize>(
     rt: &R,
     alloc: Global,
     machine: &Single<N, P>,
     seat: &mut MachineSeat<N>,
-    all: &[Asked],
+    all: &[Expected],
 ) {
-    for asked in all {
-        is_true(rt, is_answered(rt, alloc, machine, seat, *asked));
+    for expected in all {
+        is_true(rt, is_answered(rt, alloc, machine, seat, *expected));
     }
 }
 
@@ -244,7 +246,7 @@ fn events<N: Naming + Counting, R: Abort + Wait, const P: usize>(
     alloc: Global,
     prepared: Prepared<CfsQueue>,
     unnamed: UnnamedCounters,
-    all: &[Asked],
+    all: &[Expected],
 ) -> u64
     requires few { P ≤ PROCESSORS }
     requires name { table_of prepared ≡ N.table }
@@ -270,7 +272,7 @@ fn events_by<N: Naming + Counting, R: Abort + Wait>(
     prepared: Prepared<CfsQueue>,
     unnamed: UnnamedCounters,
     processors: u64,
-    all: &[Asked],
+    all: &[Expected],
 ) -> u64
     requires name { table_of prepared ≡ N.table }
     requires counters { table_of unnamed ≡ N.counters }
@@ -285,7 +287,7 @@ fn events_by<N: Naming + Counting, R: Abort + Wait>(
     panic!(rt; "two processors or three")
 }
 
-/// All that a row asks is answered as it has to be, and the history is that long.
+/// Each call of a row is answered as it has to be, and the history is that long.
 fn is_kept<R: Abort + Wait>(rt: &R, alloc: Global, row: &Row) {
     let (processors, all, wanted) = *row;
     let Ok((prepared, unnamed)) = prepare::<CfsQueue>(alloc, processors, 1) else {

@@ -1,6 +1,6 @@
 //! What threads do with their seats, as data: a play is a list of steps, and a script says which plays are made at once.
 
-use crate::asking::Request;
+use crate::requests::Request;
 
 /// One thing that a thread does.
 #[derive(Clone, Copy)]

@@ -1,10 +1,10 @@
 //! A seat at play.
 
-use crate::asking::{Receipts, Request, ask};
 use crate::counting_clock::CountingClock;
 use crate::gate::Gate;
 use crate::held_queue::HeldQueue;
 use crate::play::{Play, Step};
+use crate::requests::{Receipts, Request, call};
 use bq_history::{Naming, Receipt};
 use bq_hooks::Hook;
 use bq_machine::Machine;
@@ -47,7 +47,7 @@ impl<'a, N: Naming + Counting, R: Abort + Wait> Player<'a, N, R> {
 
     /// Makes the call, and keeps its receipts. Returns the place of the first.
     fn call(&mut self, request: Request) -> u64 {
-        let answer = ask(self.rt, self.alloc, self.machine, &mut self.seat, request);
+        let answer = call(self.rt, self.alloc, self.machine, &mut self.seat, request);
         let Receipts { first, second } = answer.expect(self.rt, "a call was refused");
         let place = first.place;
         self.keep(first);

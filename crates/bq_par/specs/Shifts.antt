@@ -3,6 +3,7 @@ use Rattle.std.specs.Prelude.{◌≡◌, ◌↔◌, ℕ, ◌-◌, ◌^◌, pos, 
 use Rattle.std.specs.Option.{option_to_list}
 use Rattle.bq_disc.specs.declared.limits.TheConstants.{DEFAULT_SLICE}
 use Rattle.bq_history.specs.Whole.{Each}
+use Rattle.bq_history.specs.Callers.{number_of, receipts_of}
 use Rattle.bq_history.specs.declared.shared_state.Receipt.{Receipt}
 use Rattle.bq_parts.specs.declared.event.Event.TheVariants.{Admit, BeginWake, EndWake, Drain, Tick}
 use Rattle.bq_shared.specs.declared.record.Record.{Record}
@@ -37,3 +38,7 @@ pub record IsShift (p ticks : ℕ) (l : List (Receipt Record)) : Type 0 where
   pub start : List (Receipt Record)
   pub started : IsShiftStart p start
   pub ticked : TicksMore p ticks start l
+
+-- the caller's receipts are those of the shift of the processor with the caller's number
+abbrev pub DidShift : ℕ → ℕ × List (Receipt Record) → Type 0
+DidShift ticks caller = IsShift (number_of caller) ticks (receipts_of caller)

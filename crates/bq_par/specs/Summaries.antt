@@ -3,13 +3,13 @@ use Rattle.std.specs.Prelude.{◌≡◌, ℕ, ◌*◌, List, ◌++◌, length, c
 use Rattle.std.specs.Fmt.{decimal}
 use Rattle.bq_disc.specs.Discipline.{Discipline}
 use Rattle.bq_history.specs.Whole.{total, Each}
-use Rattle.bq_history.specs.Callers.{number_of, receipts_of}
+use Rattle.bq_history.specs.Callers.{receipts_of}
 use Rattle.bq_history.specs.History.{EachOnce, IsHistory, AreReceiptsOf}
 use Rattle.bq_history.specs.declared.shared_state.Receipt.{Receipt}
 use Rattle.bq_parts.specs.World.{World, opening_world}
 use Rattle.bq_shared.specs.Parts.{RecordStep}
 use Rattle.bq_shared.specs.declared.record.Record.{Record}
-use Rattle.bq_par.specs.Shifts.{IsShift}
+use Rattle.bq_par.specs.Shifts.{DidShift}
 use Rattle.bq_par.specs.Ticks.{ticks_in}
 use Rattle.bq_par.specs.declared.summary.HistorySummary.{HistorySummary}
 
@@ -26,13 +26,13 @@ pub record IsHistorySummary (d : Discipline) (processors ticks : ℕ) (s : Histo
   -- processor's shift: its task is admitted, woken and drained there, and then it ticks exactly as often as was asked for
   pub many : length callers ≡ processors
   pub numbers : EachOnce processors callers
-  pub shifts : Each (λ (c : ℕ × List (Receipt Record)). IsShift (number_of c) ticks (receipts_of c)) callers
+  pub shifts : Each (DidShift ticks) callers
   -- the numbers: how many records there are, how many of them are ticks, and how many receipts the history confirms, which
   -- is all of them
   pub events : s.events ≡ length s.history
   pub ticked : s.ticks ≡ ticks_in s.history
   pub asked : s.ticks ≡ processors * ticks
-  pub confirmed : s.confirmed ≡ total (λ (c : ℕ × List (Receipt Record)). length (receipts_of c)) callers
+  pub confirmed : s.confirmed ≡ total (λ c. length (receipts_of c)) callers
 
 -- the line of text with these numbers
 abbrev pub summary_line : HistorySummary → List ℕ

@@ -5,7 +5,7 @@ ghost use Rattle.bq_words.specs.Sizes.{processors_in};
 ghost use Rattle.bq_history.specs.Callers.{number_of, receipts_of};
 ghost use Rattle.bq_history.specs.Tables.{table_of};
 ghost use Rattle.bq_shared.specs.Prepared.{ArePrepared};
-ghost use Rattle.bq_par.specs.Shifts.{IsShift};
+ghost use Rattle.bq_par.specs.Shifts.{DidShift};
 ghost use Rattle.bq_par.specs.Summaries.{IsHistorySummary};
 
 use crate::metronome::Metronome;
@@ -124,7 +124,7 @@ where
     Q::R: Send,
     requires fresh { All (λ s. (number_of s < 256) × (receipts_of s ≡ [])) seats.items }
     ensures many { IfOk result (λ done. vec_len done ≡ vec_len seats) }
-    ensures shifts { IfOk result (λ done. All (λ r. IfOk r (λ d. IsShift (number_of d.seat) ticks (receipts_of d.seat))) done.items) }
+    ensures shifts { IfOk result (λ done. All (λ r. IfOk r (λ d. DidShift ticks d.seat)) done.items) }
 {
     map_vec(
         rt,
@@ -132,7 +132,7 @@ where
         &|seat: MachineSeat<N>| -> Result<ReturnedSeat<N>, Refusal>
             requires number { number_of seat < 256 }
             requires fresh { receipts_of seat ≡ [] }
-            ensures { IfOk result (λ d. IsShift (number_of d.seat) ticks (receipts_of d.seat)) }
+            ensures { IfOk result (λ d. DidShift ticks d.seat) }
         { drive(rt, alloc, machine, seat, ticks) },
     )
 }

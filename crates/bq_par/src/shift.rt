@@ -2,7 +2,7 @@
 ghost use Rattle.std.specs.Prelude.{◌≡◌, ◌<◌, ◌++◌, ◌∷◌, [], IfOk, OnOk};
 ghost use Rattle.std.specs.Option.{option_to_list};
 ghost use Rattle.bq_history.specs.Callers.{number_of, receipts_of};
-ghost use Rattle.bq_par.specs.Shifts.{IsShift, IsShiftStart, TicksMore};
+ghost use Rattle.bq_par.specs.Shifts.{DidShift, IsShiftStart, TicksMore};
 
 use bq_disc::RunQueue;
 use bq_disc::limits::DEFAULT_SLICE;
@@ -41,7 +41,7 @@ pub fn drive<Q: RunQueue + Drop, K: Clock + Drop, N: Naming + Counting, R: Wait,
     requires number { number_of seat < 256 }
     requires fresh { receipts_of seat ≡ [] }
     ensures own { IfOk result (λ d. number_of d.seat ≡ number_of seat) }
-    ensures shift { IfOk result (λ d. IsShift (number_of d.seat) ticks (receipts_of d.seat)) }
+    ensures shift { IfOk result (λ d. DidShift ticks d.seat) }
 {
     let mut seat = seat;
     let processor = seat.number() as u8;

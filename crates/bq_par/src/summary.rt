@@ -3,9 +3,9 @@ ghost use Rattle.std.specs.Prelude.{◌≡◌, ◌↔◌, ◌<◌, ◌≤◌, �
 ghost use Rattle.std.specs.List.{All, sum_by};
 ghost use Rattle.std.specs.Option.{option_map};
 ghost use Rattle.bq_history.specs.Whole.{Each};
-ghost use Rattle.bq_history.specs.Callers.{number_of, receipts_of};
+ghost use Rattle.bq_history.specs.Callers.{receipts_of};
 ghost use Rattle.bq_history.specs.History.{IsConfirmed, IsRecorded};
-ghost use Rattle.bq_par.specs.Shifts.{IsShift};
+ghost use Rattle.bq_par.specs.Shifts.{DidShift};
 ghost use Rattle.bq_par.specs.Summaries.{IsHistorySummary, summary_line};
 ghost use Rattle.bq_par.specs.Ticks.{one_tick, ticks_in};
 
@@ -61,7 +61,7 @@ pub fn finish<Q: RunQueue + Drop, K: Clock + Drop, N: Naming + Counting, const P
 ) -> Result<HistorySummary, AllocError>
     requires callers { machine.recorder.history.callers ≡ P }
     requires many { vec_len done ≡ P }
-    requires shifts { All (λ r. IfOk r (λ d. IsShift (number_of d.seat) ticks (receipts_of d.seat))) done.items }
+    requires shifts { All (λ r. IfOk r (λ d. DidShift ticks d.seat)) done.items }
     ensures { IfOk result (IsHistorySummary Q.R.discipline P ticks) }
 {
     let ReturnedSeats { seats, lists } = returned(alloc, done, ticks)?;
@@ -102,9 +102,9 @@ fn returned<N: Naming + Counting>(
     done: Vec<Result<ReturnedSeat<N>, Refusal>>,
     ticks: u32,
 ) -> Result<ReturnedSeats<N>, AllocError>
-    requires { All (λ r. IfOk r (λ d. IsShift (number_of d.seat) ticks (receipts_of d.seat))) done.items }
+    requires { All (λ r. IfOk r (λ d. DidShift ticks d.seat)) done.items }
     ensures many { IfOk result (λ r. length r.seats.items ≡ vec_len done) }
-    ensures shifts { IfOk result (λ r. Each (λ s. IsShift (number_of s) ticks (receipts_of s)) r.seats.items) }
+    ensures shifts { IfOk result (λ r. Each (DidShift ticks) r.seats.items) }
 {
     let mut done = done;
     let mut seats = Vec::with_capacity(alloc, done.len())?;

@@ -1,1 +1,2 @@
 pub mod AllParts
+pub mod Queues

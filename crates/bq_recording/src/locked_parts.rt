@@ -1,11 +1,12 @@
 //! A lock for each part of the world.
-ghost use Rattle.std.specs.Prelude.{◌≡◌, ◌≤◌, ◌++◌, ℕ, [], List, All, IfOk, length, map, vec_len};
+ghost use Rattle.std.specs.Prelude.{◌≡◌, ◌≤◌, ◌++◌, ℕ, List, IfOk, length, map, vec_len};
 ghost use Rattle.bq_history.specs.Items.{callers_from, part_item};
 ghost use Rattle.bq_shared.specs.Parts.{first_parts};
 ghost use Rattle.bq_shared.specs.Opened.{ItemOf, cpu_items, inbox_items};
+ghost use Rattle.bq_recording.specs.Queues.{AreFresh};
 
 use bq_disc::RunQueue;
-use bq_disc::limits::{FIRST_MARK, PROCESSORS};
+use bq_disc::limits::PROCESSORS;
 use bq_history::{Holder, Item, Locked, Naming};
 use bq_installed::Scratch;
 use bq_parts::{Cpu, Inbox, Lobby};
@@ -34,7 +35,7 @@ pub fn part_locks<Q: RunQueue + Drop, N: Naming>(
 ) -> Result<PartLocks<Q, N>, AllocError>
     requires few { count ≤ PROCESSORS }
     requires many { length queues.items ≡ count }
-    requires empty { All (λ q. (Q.members q ≡ []) × (Q.last_mark q ≡ FIRST_MARK)) queues.items }
+    requires empty { AreFresh Q.members Q.last_mark queues.items }
     requires items { (s : ℕ) × (all.old ≡ map part_item (first_parts count) ++ callers_from 0 s) }
     ensures cpus { IfOk result (λ l. vec_len l.cpus ≡ count) }
     ensures inboxes { IfOk result (λ l. vec_len l.inboxes ≡ count) }
@@ -61,7 +62,7 @@ fn cpu_locks<Q: RunQueue + Drop, N: Naming>(
     queues: Vec<Q>,
 ) -> Result<Vec<Mutex<UnderLock<NumberedCpu<Q>, N>>>, AllocError>
     requires few { length queues.items ≤ PROCESSORS }
-    requires empty { All (λ q. (Q.members q ≡ []) × (Q.last_mark q ≡ FIRST_MARK)) queues.items }
+    requires empty { AreFresh Q.members Q.last_mark queues.items }
     requires items { (rest : List ItemOf) × (all.old ≡ cpu_items 0 (length queues.items) ++ rest) }
     ensures locks { IfOk result (λ v. vec_len v ≡ length queues.items) }
     ensures rest { IfOk result (λ _. (rest : List ItemOf) → all.old ≡ cpu_items 0 (length queues.items) ++ rest → all.new ≡ rest) }

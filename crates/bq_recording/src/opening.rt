@@ -1,12 +1,13 @@
 //! A machine's parts, its history, its counters and its seats at the start.
-ghost use Rattle.std.specs.Prelude.{◌≡◌, ◌≤◌, ◌++◌, [], All, IfOk, length, map, vec_len, replicate};
-ghost use Rattle.bq_disc.specs.declared.limits.TheConstants.{FIRST_MARK, PROCESSORS};
+ghost use Rattle.std.specs.Prelude.{◌≡◌, ◌≤◌, ◌++◌, IfOk, length, map, vec_len, replicate};
+ghost use Rattle.bq_disc.specs.declared.limits.TheConstants.{PROCESSORS};
 ghost use Rattle.bq_history.specs.Tables.{table_of, start_of};
 ghost use Rattle.bq_history.specs.Items.{callers_from, part_item};
 ghost use Rattle.bq_shared.specs.Calls.{fresh_callers};
 ghost use Rattle.bq_shared.specs.Sums.{opened};
 ghost use Rattle.bq_shared.specs.Parts.{first_parts};
 ghost use Rattle.bq_shared.specs.Prepared.{ArePrepared};
+ghost use Rattle.bq_recording.specs.Queues.{AreFresh};
 
 use crate::locked_parts::{PartLocks, part_locks};
 use crate::prepared::Prepared;
@@ -53,7 +54,7 @@ impl<Q: RunQueue + Drop, N: Naming + Counting, const P: usize> Opening<Q, N, P> 
         requires counters { table_of unnamed ≡ N.counters }
         requires counts { ArePrepared P seat_count prepared unnamed }
         requires many { length queues.items ≡ P }
-        requires empty { All (λ q. (Q.members q ≡ []) × (Q.last_mark q ≡ FIRST_MARK)) queues.items }
+        requires empty { AreFresh Q.members Q.last_mark queues.items }
         ensures seats { IfOk result (λ r. r.1.items ≡ fresh_callers 0 seat_count) }
         ensures count { IfOk result (λ r. r.0.seats ≡ seat_count) }
     {

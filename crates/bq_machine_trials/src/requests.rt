@@ -1,4 +1,4 @@
-//! What is asked of a machine, as values.
+//! The calls of a machine, as values.
 
 use bq_disc::RunQueue;
 use bq_history::{Naming, Receipt};
@@ -29,7 +29,7 @@ pub struct Receipts {
 }
 
 /// Makes the call by this seat.
-pub fn ask<Q: RunQueue + Drop, K: Clock + Drop, N: Naming + Counting, R: Wait, const P: usize>(
+pub fn call<Q: RunQueue + Drop, K: Clock + Drop, N: Naming + Counting, R: Wait, const P: usize>(
     rt: &R,
     alloc: Global,
     machine: &Machine<Q, K, N, P>,
