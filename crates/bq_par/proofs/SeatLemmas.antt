@@ -61,7 +61,7 @@ seat_send N n m =
     (search (working.the_send, crosses, sendable) depth 20, (spare, (spare, (calls_send, tt)))))
 
 -- a receipt may
-receipt_send : IsSend (Receipt.the_row Record.the_row)
+pub receipt_send : IsSend (Receipt.the_row Record.the_row)
 receipt_send = search (receipt.the_send, record_send) depth 10
 
 -- a seat that has come back, and its receipts, may

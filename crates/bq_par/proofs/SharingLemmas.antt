@@ -33,6 +33,11 @@ use Rattle.bq_shared.proofs.SendLemmas.{numbered_send, inbox_send, lobby_send, r
 use Rattle.bq_recording.specs.contracts.recorder.Recorder as Recorder
 use Rattle.bq_machine.specs.contracts.machine.Machine as Machine
 use Rattle.bq_machine.specs.declared.clock.Clock as Clock
+use Rattle.bq_par.specs.contracts.metronome.Metronome as Metronome
+
+-- the clock of parallel runs may be shared
+pub metronome_sync : IsSync Metronome.the_row
+metronome_sync = search (crosses, sendable) depth 20
 
 -- a lock may be shared where what it guards may cross threads
 mutex_sync : (T : RattleType) → IsSend T → IsSync (Mutex.the_row T)

@@ -46,7 +46,7 @@ impl<Q: RunQueue + Drop, N: Naming + Counting> Recorder<Q, N> {
     }
 }
 
-/// Takes a lock that is mostly free. If it is free, it is taken in place; a call is made only to wait for it.
+/// Locks a mutex that is mostly free. If it is free, that is done in place; a call is made only to wait for it.
 #[inline(always)]
 pub fn lock<'a, R: Wait, T>(rt: &R, of: &'a Mutex<T>) -> MutexGuard<'a, T> {
     match of.try_lock() {

@@ -1,20 +1,17 @@
 -- Threads may share the machine, as its queues may cross threads and its clock may be shared.
 use denote.RattleType.{RattleType}
 use denote.Param.{param, number}
-use denote.Param.Send.{IsSend, IsSync, sendable}
+use denote.Param.Send.{IsSend, sendable}
 use denote.Param.SendFields.{declared_send}
 use Rattle.std.proofs.Crossing.{crosses}
 use Rattle.bq_par.specs.contracts.metronome.Metronome as Metronome
 use Rattle.bq_par.specs.contracts.metronome.MetronomeClock.TheImpl as metronome
 use Rattle.bq_par.proofs.SeatLemmas.{seat_send}
-use Rattle.bq_par.proofs.SharingLemmas.{machine_sync}
+use Rattle.bq_par.proofs.SharingLemmas.{machine_sync, metronome_sync}
 use Rattle.bq_history.specs.declared.law.Naming as Naming
 use Rattle.bq_shared.specs.declared.account.Counting as Counting
 use Rattle.bq_machine_trials.specs.contracts.drawn.Racer as Racer
 use Rattle.bq_machine_trials.proofs.race_tests.race_under.Goals as goal
-
-metronome_sync : IsSync Metronome.the_row
-metronome_sync = search (crosses, sendable) depth 20
 
 pub map_vec-requires-sync-F : goal.map_vec-requires-sync-F
 map_vec-requires-sync-F g c κs within =

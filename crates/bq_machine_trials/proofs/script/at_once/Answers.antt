@@ -7,14 +7,12 @@ use Rattle.std.proofs.Crossing.{crosses, Vec-send}
 use Rattle.bq_cfs.specs.contracts.discipline.Cfs as Cfs
 use Rattle.bq_cfs.specs.contracts.discipline.CfsDiscipline.TheImpl as cfs
 use Rattle.bq_par.proofs.SendLemmas.{cfs_queue_send}
-use Rattle.bq_par.proofs.SeatLemmas.{seat_send}
+use Rattle.bq_par.proofs.SeatLemmas.{seat_send, receipt_send}
 use Rattle.bq_par.proofs.SharingLemmas.{machine_sync}
 use Rattle.bq_history.specs.declared.law.Naming as Naming
 use Rattle.bq_shared.specs.declared.account.Counting as Counting
 use Rattle.bq_history.specs.contracts.shared_state.Receipt as Receipt
-use Rattle.bq_history.proofs.shared_state.Receipt.TheSendSync as receipt
 use Rattle.bq_shared.specs.contracts.record.Record as Record
-use Rattle.bq_shared.proofs.SendLemmas.{record_send}
 use Rattle.bq_machine_trials.specs.contracts.script.Job as Job
 use Rattle.bq_machine_trials.specs.contracts.script.Played as Played
 use Rattle.bq_machine_trials.proofs.gate.Gate.TheSendSync as gate
@@ -37,9 +35,6 @@ map_vec-requires-sync-F g c κs within =
     machine_sync Held.the_row Counted.the_row (param 0 g.row.N) (number 4) Cfs.the_row clock.ghosts g.N.Naming g.N.Counting
     held.ghosts cfs.ghosts held_send clock_sync in
     search (gate.the_sync, crosses, sendable) depth 20
-
-receipt_send : IsSend (Receipt.the_row Record.the_row)
-receipt_send = search (receipt.the_send, record_send) depth 10
 
 -- a seat with what it is to do
 job_send : (N : RattleType) (n : Naming.Ghosts N.Denot) (m : Counting.Ghosts N.Denot) → IsSend (Job.the_row N n m)

@@ -1,15 +1,12 @@
 -- Threads may share the machine, as its queues may cross threads and its clock may be shared.
 use denote.Param.{param, number}
-use denote.Param.Send.{IsSync, sendable}
+use denote.Param.Send.{sendable}
 use Rattle.std.proofs.Crossing.{crosses}
 use Rattle.bq_par.specs.contracts.metronome.Metronome as Metronome
 use Rattle.bq_par.specs.contracts.metronome.MetronomeClock.TheImpl as metronome
 use Rattle.bq_par.proofs.SeatLemmas.{seat_send, done_send}
-use Rattle.bq_par.proofs.SharingLemmas.{machine_sync}
+use Rattle.bq_par.proofs.SharingLemmas.{machine_sync, metronome_sync}
 use Rattle.bq_par.proofs.runs.drive_all.Goals as goal
-
-metronome_sync : IsSync Metronome.the_row
-metronome_sync = search (crosses, sendable) depth 20
 
 pub map_vec-requires-sync-F : goal.map_vec-requires-sync-F
 map_vec-requires-sync-F g c κs within =
