@@ -1,7 +1,9 @@
 -- A simulation that goes well, from one thing to the next.
-use Rattle.std.proofs.Common.{◌≡◌, ℕ, ◌+◌, ◌*◌, ◌^◌, ◌≤◌, inl, inr, List, [], ◌∷◌, sym, subst, ap, ◌∙◌, arith}
+use Rattle.std.proofs.Common.{◌≡◌, ℕ, ◌+◌, ◌*◌, ◌^◌, ◌≤◌, inl, inr, List, [], ◌∷◌, Option, Some, sym, subst, ap, ◌∙◌, arith}
 use Rattle.std.specs.Prelude.{Err, IfErr, Ok, Result, ⊤}
+use Rattle.std.specs.Option.{MatchOption}
 use Rattle.std.specs.Result.{IsErrAnd}
+use Rattle.std.proofs.lemmas.Option.{MatchOption-at_some}
 use Rattle.std.proofs.lemmas.Result.{err_from_is_err_and}
 use Rattle.bq_core.proofs.SizeLemmas.{step_count}
 use Rattle.bq_parts.specs.declared.event.Event.{Event}
@@ -11,11 +13,12 @@ use Rattle.bq_trace.specs.Machines.{discipline_of}
 use Rattle.bq_trace.specs.TraceEvents.{TraceEvent, Reported}
 use Rattle.bq_workload.specs.declared.due.Due.{Due}
 use Rattle.bq_workload.specs.declared.periods.Periods.{Periods}
+use Rattle.bq_workload.specs.declared.roster.Roster.{Roster}
 use Rattle.bq_workload.specs.declared.workload.TaskKind.{TaskKind}
 use Rattle.bq_workload.specs.declared.workload.Workload.{Workload}
 use Rattle.bq_workload.specs.Accounts.{accounts_of}
 use Rattle.bq_workload.specs.Bounds.{steps_at_once}
-use Rattle.bq_workload.specs.Next.{IsNextDue}
+use Rattle.bq_workload.specs.Next.{IsAgreed, IsNextDue, NothingComes}
 use Rattle.bq_simulate.specs.declared.driver.Driver.{Driver}
 use Rattle.bq_simulate.specs.declared.fault.SimulateFault.{SimulateFault}
 use Rattle.bq_simulate.specs.declared.fault.SimulateFault.TheVariants as why
@@ -69,6 +72,23 @@ comes-well w last now due s h next =
         agreed = h.agreed;
       },
     )
+
+-- what an event queue gives next comes next by the accounts
+pub next-given : (r : Roster) (now : ℕ) (due : Due) (o : Option (ℕ × Due)) → o ≡ Some (now, due)
+    → MatchOption o (NothingComes r.periods.end (accounts_of r)) (λ d. IsNextDue r.periods.end (accounts_of r) d.1 d.0)
+    → IsNextDue r.periods.end (accounts_of r) due now
+next-given r now due o is next =
+    MatchOption-at_some (NothingComes r.periods.end (accounts_of r)) (λ d. IsNextDue r.periods.end (accounts_of r) d.1 d.0) (now, due) is next
+
+-- of a simulation that goes well it comes until the end, and nothing is past then
+pub given-well : (w : Workload) (last now : ℕ) (due : Due) (s : Simulation) (o : Option (ℕ × Due)) → o ≡ Some (now, due)
+    → (IsAgreed s.roster → MatchOption o (NothingComes s.roster.periods.end (accounts_of s.roster))
+    (λ d. IsNextDue s.roster.periods.end (accounts_of s.roster) d.1 d.0)) → SimulationGoesWell w last s
+    → (last ≤ now) × (now ≤ w.machine.duration) × SimulationGoesWell w now s × IsNextDue w.machine.duration (accounts_of s.roster) due now
+given-well w last now due s o is next h =
+    let first = next-given s.roster now due o is (next h.agreed) in
+    let comes = comes-well w last now due s h first in
+    (comes.0, comes.1, comes.2, subst (λ (p : Periods). IsNextDue p.end (accounts_of s.roster) due now) h.periods first)
 
 -- deeds that keep all
 abbrev pub KeepAll : Workload → ℕ → ℕ → (List Deed → Type 0) → Type 0

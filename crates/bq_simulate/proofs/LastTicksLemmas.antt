@@ -8,6 +8,8 @@ use Rattle.bq_parts.specs.declared.reply.Reply.{Reply}
 use Rattle.bq_parts.specs.World.{World, count_in}
 use Rattle.bq_parts.proofs.RefusalLemmas.{accepted, not_refused_is_there}
 use Rattle.bq_trace.specs.TraceEvents.{TraceEvent, Reported}
+use Rattle.bq_verify.specs.Accepted.{Accepted}
+use Rattle.bq_words.specs.Sizes.{processors_in}
 use Rattle.bq_workload.specs.declared.progress.TaskProgress.{TaskProgress}
 use Rattle.bq_workload.specs.declared.periods.Periods.{Periods}
 use Rattle.bq_workload.specs.declared.workload.TaskKind.{TaskKind}
@@ -22,14 +24,15 @@ use Rattle.bq_simulate.specs.Agreement.{IsOnTime}
 use Rattle.bq_simulate.specs.AgreementLaws.{BookAgrees}
 use Rattle.bq_simulate.specs.Deeds.{Book, Deed, DeedsLead, after_answer}
 use Rattle.bq_simulate.specs.Drives.{DrivesEvent, runs_now}
-use Rattle.bq_simulate.specs.GoingWell.{SimulationGoesWell, HasGoneWell}
-use Rattle.bq_simulate.specs.Simulations.{GoesOnBy, book_of, periods_of, with_seed}
+use Rattle.bq_simulate.specs.GoingWell.{SimulationGoesWell, HasGoneWell, StartsWell}
+use Rattle.bq_simulate.specs.Simulations.{GoesOnBy, HasProceeded, ProceedsIn, book_of, periods_of, with_seed}
 use Rattle.bq_simulate.specs.Steps.{AreJustEvents, all_processors, last_ticks}
 use Rattle.bq_simulate.proofs.AllIsKeptLemmas.{AreBy, by_kept}
 use Rattle.bq_simulate.proofs.GoesWellLemmas.{KeepAll, goes-well, processors_kept}
 use Rattle.bq_simulate.proofs.MeetAgreeLemmas.{step_of, tick_agrees, world_of}
 use Rattle.bq_simulate.proofs.MirrorLemmas.{state_there}
 use Rattle.bq_simulate.proofs.NothingMissedLemmas.{on_time_to_end}
+use Rattle.bq_simulate.proofs.OpensWellLemmas.{processors-there}
 use Rattle.bq_simulate.proofs.SimulationAgreeLemmas.{none_kept}
 use Rattle.bq_simulate.proofs.SoundWorkloadLemmas.{sound_times}
 use Rattle.bq_simulate.proofs.StandsAtActionLemmas.{standing_is_kept}
@@ -112,7 +115,7 @@ ticked-well takes x y w now processors s t goes_on h =
     (well, well.kept.agrees.mirrors.processors.many ∙ still ∙ sym h.kept.agrees.mirrors.processors.many)
 
 -- once nothing comes any more it has come to its end
-pub ended-well : (w : Workload) (s : Simulation) → NothingComes s.roster.periods.end (accounts_of s.roster) → HasGoneWell w s
+ended-well : (w : Workload) (s : Simulation) → NothingComes s.roster.periods.end (accounts_of s.roster) → HasGoneWell w s
     → SimulationGoesWell w w.machine.duration s
 ended-well w s none gone =
     let h = gone.well in
@@ -137,6 +140,17 @@ ended-well w s none gone =
       };
       agreed = h.agreed;
     }
+
+-- and it has as many processors as its workload says
+pub came-to-end : {S : Type 0} (takes : S → ℕ → TraceEvent → S → Type 0) (policies : List Accepted) (w : Workload) (x y : S)
+    (s t : Simulation)
+    → StartsWell w s → HasProceeded takes policies w x s y t → NothingComes t.roster.periods.end (accounts_of t.roster) → HasGoneWell w t
+    → SimulationGoesWell w w.machine.duration t × (length t.roster.by_processor.items ≡ processors_in w.machine.size)
+came-to-end takes policies w x y s t starts goes_on none gone = (
+  ended-well w t none gone,
+  gone.well.kept.agrees.mirrors.processors.many
+      ∙ processors-there takes (ProceedsIn policies w s.seed s.roster.periods) x y w 0 s t goes_on starts.opens,
+)
 
 -- no task has run past its phase
 pub keep_phases : (now : ℕ) (a : Accounts) → IsOnTime now a → list_all keeps_phase a.by_task ≡ true

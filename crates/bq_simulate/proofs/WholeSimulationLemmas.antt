@@ -15,18 +15,29 @@ use Rattle.bq_simulate.specs.declared.simulation.Simulation.{Simulation}
 use Rattle.bq_workload.specs.Bounds.{most_steps, steps_at_once}
 use Rattle.bq_simulate.specs.Deeds.{Book, Deed, DeedsLead, after_deeds}
 use Rattle.bq_workload.specs.Next.{IsAgreed, NothingComes}
-use Rattle.bq_simulate.specs.Simulations.{SimulationBegins, GoesByDeeds, HasFirsts, IsFollowed, IsSimulation, IsTooLong, GoesOnBy, GoesOnFromBook, Proceeds, ProceedsBy, ProceedsIn, ProceedsOut, RunsToLastTicks, ComesToBound, RunsToEndOrEnough, book_of, opening_book, periods_of}
+use Rattle.bq_simulate.specs.Simulations.{SimulationBegins, GoesByDeeds, HasFirsts, IsFollowed, IsSimulation, IsTooLong, GoesOnBy, GoesOnForAnyKinds, GoesOnFromBook, Proceeds, ProceedsBy, ProceedsIn, ProceedsOut, RunsToLastTicks, ComesToBound, RunsToEndOrEnough, book_of, opening_book, periods_of}
 use Rattle.bq_simulate.specs.Steps.{AreAllAdmitted, AreAllMet, AreInstalled, AreMet, Opens}
 use Rattle.bq_simulate.proofs.BookLemmas.{book-after}
-use Rattle.bq_simulate.proofs.DeedLemmas.{GoesByDeeds-join, GoesByDeeds-weaker, DeedsLead-append, drives-of-deeds}
+use Rattle.bq_simulate.proofs.DeedLemmas.{GoesByDeeds-join, GoesByDeeds-weaker, GoesOnBy-join, DeedsLead-append, drives-of-deeds}
 use Rattle.bq_simulate.proofs.DueInOrderLemmas.{AreAllMet-within, AreMet-within}
 
 -- what is installed, and then what is admitted
-pub Opens-join : (policies : List Accepted) (processors : ℕ) (kinds : List TaskKind) (xs ys : List Deed)
+Opens-join : (policies : List Accepted) (processors : ℕ) (kinds : List TaskKind) (xs ys : List Deed)
     → AreInstalled processors policies xs → AreAllAdmitted processors 0 0 kinds ys
     → Opens policies processors kinds (xs ++ ys)
 Opens-join policies processors kinds xs ys installed admitted =
     record { installs = xs; admissions = ys; whole = refl; installed = installed; admitted = admitted }
+
+-- policies are installed, and then tasks are admitted: so a simulation opens
+pub GoesOnBy-opens : {S : Type 0} (takes : S → ℕ → TraceEvent → S → Type 0) (policies : List Accepted) (count processors : ℕ)
+    (kinds : List TaskKind) (x y z : S) (s t u : Simulation)
+    → count ≡ processors → GoesOnForAnyKinds takes (AreInstalled count policies) x s y t
+    → GoesOnBy takes kinds (AreAllAdmitted processors 0 0 kinds) y t z u
+    → GoesOnBy takes kinds (Opens policies processors kinds) x s z u
+GoesOnBy-opens takes policies count processors kinds x y z s t u all installed admitted =
+    GoesOnBy-join takes kinds (AreInstalled processors policies) (AreAllAdmitted processors 0 0 kinds) (Opens policies processors kinds)
+    (Opens-join policies processors kinds) x y z s t u
+    (subst (λ (n : ℕ). GoesOnBy takes kinds (AreInstalled n policies) x s y t) all (installed kinds)) admitted
 
 -- what opens it, and then some of which something holds by what is kept
 opened-join : {S : Type 0} (takes : S → ℕ → TraceEvent → S → Type 0) (policies : List Accepted) (processors : ℕ)
@@ -105,6 +116,21 @@ pub record IsNew (w : Workload) (d : Driver) (s : Simulation) : Type 0 where
   pub seed : s.seed ≡ w.machine.seed
   pub streams : s.streams.items ≡ []
   pub firsts : s.firsts.items ≡ []
+
+-- one is new of which all of that holds
+pub is-new : (w : Workload) (d : Driver) (s : Simulation)
+    → s.driver ≡ d → accounts_of s.roster ≡ (opening_book w.machine).accounts → s.roster.periods ≡ periods_of w.machine
+    → IsAgreed s.roster → s.seed ≡ w.machine.seed → s.streams.items ≡ [] → s.firsts.items ≡ []
+    → IsNew w d s
+is-new w d s driver accounts periods agreed seed streams firsts = record {
+  driver = driver;
+  accounts = accounts;
+  periods = periods;
+  agreed = agreed;
+  seed = seed;
+  streams = streams;
+  firsts = firsts;
+}
 
 -- what holds of the deeds by which it goes on, by the seed, the periods and what was kept at its machine's making
 abbrev By : Type 1

@@ -4,22 +4,14 @@ use Rattle.bq_simulate.specs.GoingWell.{EndsEarly}
 use Rattle.bq_simulate.specs.Simulations.{with_seed}
 use Rattle.bq_simulate.proofs.GoesWellLemmas.{bound-of-too_many_steps, err-both, err-by, wants-no-end}
 use Rattle.bq_simulate.proofs.OpensWellLemmas.{starts-well}
-use Rattle.bq_simulate.proofs.WholeSimulationLemmas.{IsNew, followed-of, too-long-of}
+use Rattle.bq_simulate.proofs.WholeSimulationLemmas.{followed-of, is-new, too-long-of}
 use Rattle.bq_simulate.proofs.whole_simulation.follow.Goals as goal
 
 pub returns-clause-reported : goal.returns-clause-reported
 returns-clause-reported g c =
     let s = c.in_ok-simulation.ensures in
     let w = with_seed c.args.workload.now c.args.seed in
-    let new : IsNew w _ _ = record {
-      driver = s.driver;
-      accounts = s.accounts;
-      periods = s.periods;
-      agreed = s.agrees;
-      seed = s.seed;
-      streams = s.streams;
-      firsts = s.firsts;
-    } in
+    let new = is-new w _ _ s.driver s.accounts s.periods s.agrees s.seed s.streams s.firsts in
     on_ok_weaker c.run.result
     (λ h. followed-of g.S.Sink.takes g.S.Enough.has_enough _ _ _ c.args.policies.now w _ _ _ c.in_ok-driver.ensures.starts new h)
     c.run.ensures.runs
@@ -39,15 +31,7 @@ returns-clause-ends g c = λ sound.
     let s = c.in_ok-simulation.ensures in
     let w = c.args.workload.now in
     let made = c.in_ok-driver.ensures.starts in
-    let new : IsNew (with_seed w c.args.seed) _ _ = record {
-      driver = s.driver;
-      accounts = s.accounts;
-      periods = s.periods;
-      agreed = s.agrees;
-      seed = s.seed;
-      streams = s.streams;
-      firsts = s.firsts;
-    } in
+    let new = is-new (with_seed w c.args.seed) _ _ s.driver s.accounts s.periods s.agrees s.seed s.streams s.firsts in
     c.run.ensures.ends (starts-well w c.args.seed _ _ made.reported sound made.holds new s.counts)
 
 pub returns-in_err-driver-clause-too_many_steps : goal.returns-in_err-driver-clause-too_many_steps
@@ -67,15 +51,7 @@ returns-clause-too_many_steps g c = λ sound.
     let w = c.args.workload.now in
     let made = c.in_ok-driver.ensures.starts in
     let seeded = with_seed w c.args.seed in
-    let new : IsNew seeded _ _ = record {
-      driver = s.driver;
-      accounts = s.accounts;
-      periods = s.periods;
-      agreed = s.agrees;
-      seed = s.seed;
-      streams = s.streams;
-      firsts = s.firsts;
-    } in
+    let new = is-new seeded _ _ s.driver s.accounts s.periods s.agrees s.seed s.streams s.firsts in
     let starts = starts-well w c.args.seed _ _ made.reported sound made.holds new s.counts in
     err-both c.run.result (c.run.ensures.ends starts) (c.run.ensures.too_many_steps starts) (λ e early runs is.
     too-long-of g.S.Sink.takes _ _ _ c.args.policies.now seeded _ _ _ made new

@@ -4,11 +4,10 @@ use Rattle.bq_words.specs.Sizes.{processors_in}
 use Rattle.bq_workload.specs.Bounds.{most_steps}
 use Rattle.bq_simulate.specs.GoingWell.{EndsEarly}
 use Rattle.bq_simulate.specs.Simulations.{GoesOnFromBook}
-use Rattle.bq_simulate.specs.Steps.{AreAllAdmitted, AreAllMet, AreInstalled, AreMet, Opens}
-use Rattle.bq_simulate.proofs.DeedLemmas.{GoesOnBy-join, GoesOnBy-weaker}
+use Rattle.bq_simulate.specs.Steps.{AreAllMet, AreMet}
 use Rattle.bq_simulate.proofs.GoesWellLemmas.{err-by, wants-no-end}
 use Rattle.bq_simulate.proofs.OpensWellLemmas.{installed-well, opened-well, streams-there}
-use Rattle.bq_simulate.proofs.WholeSimulationLemmas.{Opens-join, Proceeds-join, ProceedsBy-join}
+use Rattle.bq_simulate.proofs.WholeSimulationLemmas.{GoesOnBy-opens, Proceeds-join, ProceedsBy-join}
 use Rattle.bq_simulate.proofs.simulation.Simulation.proceed.Goals as goal
 
 pub returns-clause-goes_on : goal.returns-clause-goes_on
@@ -19,17 +18,10 @@ returns-clause-goes_on g c =
     let end = w.machine.duration in
     let ended = c.run_until_end.new.self in
     let all = processors_in w.machine.size in
-    let admits = AreAllAdmitted all 0 0 kinds in
     let policies = c.args.policies.now in
-    let installs = AreInstalled all policies in
-    let opens = Opens policies all kinds in
-    let installed =
-    GoesOnBy-weaker takes kinds (AreInstalled c.processors-processors.result policies) installs
-    (λ xs are. subst (λ (n : ℕ). AreInstalled n policies xs) c.processors-processors.ensures are) _ _ _ _
-    (c.in_ok-install.ensures.goes_on kinds) in
     let opened =
-    GoesOnBy-join takes kinds installs admits opens (Opens-join policies all kinds) _ _ _ _ _ _
-    installed c.in_ok-admit.ensures.goes_on in
+    GoesOnBy-opens takes policies _ all kinds _ _ _ _ _ _ c.processors-processors.ensures c.in_ok-install.ensures.goes_on
+    c.in_ok-admit.ensures.goes_on in
     let was = c.args.self.now in
     let mid = c.admit.new.self in
     let met =
@@ -117,17 +109,10 @@ returns-in_err-run_until_end-clause-too_many_steps g c = λ starts.
     let end = w.machine.duration in
     let ended = c.run_until_end.new.self in
     let all = processors_in w.machine.size in
-    let admits = AreAllAdmitted all 0 0 kinds in
     let policies = c.args.policies.now in
-    let installs = AreInstalled all policies in
-    let opens = Opens policies all kinds in
-    let installed =
-    GoesOnBy-weaker takes kinds (AreInstalled c.processors-processors.result policies) installs
-    (λ xs are. subst (λ (n : ℕ). AreInstalled n policies xs) c.processors-processors.ensures are) _ _ _ _
-    (c.in_ok-install.ensures.goes_on kinds) in
     let opened =
-    GoesOnBy-join takes kinds installs admits opens (Opens-join policies all kinds) _ _ _ _ _ _
-    installed c.in_ok-admit.ensures.goes_on in
+    GoesOnBy-opens takes policies _ all kinds _ _ _ _ _ _ c.processors-processors.ensures c.in_ok-install.ensures.goes_on
+    c.in_ok-admit.ensures.goes_on in
     let was = c.args.self.now in
     let mid = c.admit.new.self in
     let one =

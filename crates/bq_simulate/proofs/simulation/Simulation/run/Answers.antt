@@ -4,12 +4,10 @@ use Rattle.bq_workload.specs.Accounts.{accounts_of}
 use Rattle.bq_workload.specs.Next.{NothingComes}
 use Rattle.bq_simulate.specs.Deeds.{Deed}
 use Rattle.bq_simulate.specs.GoingWell.{EndsEarly}
-use Rattle.bq_simulate.specs.Simulations.{ProceedsIn}
 use Rattle.bq_simulate.specs.Steps.{AreJustEvents, last_ticks}
 use Rattle.bq_simulate.proofs.DeedLemmas.{GoesOnBy-weaker}
 use Rattle.bq_simulate.proofs.GoesWellLemmas.{err-by, wants-no-end}
-use Rattle.bq_simulate.proofs.LastTicksLemmas.{ended-well, keep_phases}
-use Rattle.bq_simulate.proofs.OpensWellLemmas.{processors-there}
+use Rattle.bq_simulate.proofs.LastTicksLemmas.{came-to-end, keep_phases}
 use Rattle.bq_simulate.proofs.SoundWorkloadLemmas.{sound_times}
 use Rattle.bq_simulate.proofs.simulation.Simulation.run.Goals as goal
 
@@ -55,17 +53,12 @@ returns-then-not-is_over-clause-ends g c = λ starts.
 pub returns-in_err-finish-clause-ends : goal.returns-in_err-finish-clause-ends
 returns-in_err-finish-clause-ends g c = λ starts.
     let w = c.args.workload.now in
-    let ended = c.proceed.new.self in
     let gone = c.in_ok-tasks.ensures.well starts in
     let none = c.in_ok-tasks.ensures.nothing_due (sym c.has_enough.ensures ∙ c.if-has_enough.false) gone.well.agreed in
-    let was = c.args.self.now in
-    let there =
-    processors-there g.S.Sink.takes (ProceedsIn c.args.policies.now w was.seed was.roster.periods) _ _ w 0 _ _
-    c.in_ok-tasks.ensures.goes_on starts.opens in
-    let many = gone.well.kept.agrees.mirrors.processors.many in
-    let wants =
-    c.in_err-finish.ensures.ends w (ended-well w ended none gone)
-    (omega (arith, c.processors-processors.ensures, there, many)) in
+    let came =
+    came-to-end g.S.Sink.takes c.args.policies.now w _ _ c.args.self.now c.proceed.new.self starts c.in_ok-tasks.ensures.goes_on
+    none gone in
+    let wants = c.in_err-finish.ensures.ends w came.0 (omega (arith, c.processors-processors.ensures, came.1)) in
     err-by c.from_residual-in_err-finish.result c.from_residual-in_err-finish.ensures.1 (λ e is. inl (is ∙ wants))
 
 pub returns-in_err-tasks-clause-too_many_steps : goal.returns-in_err-tasks-clause-too_many_steps
@@ -77,16 +70,11 @@ returns-in_err-tasks-clause-too_many_steps g c =
 pub returns-in_err-finish-clause-too_many_steps : goal.returns-in_err-finish-clause-too_many_steps
 returns-in_err-finish-clause-too_many_steps g c = λ starts.
     let w = c.args.workload.now in
-    let ended = c.proceed.new.self in
     let gone = c.in_ok-tasks.ensures.well starts in
     let none = c.in_ok-tasks.ensures.nothing_due (sym c.has_enough.ensures ∙ c.if-has_enough.false) gone.well.agreed in
-    let was = c.args.self.now in
-    let there =
-    processors-there g.S.Sink.takes (ProceedsIn c.args.policies.now w was.seed was.roster.periods) _ _ w 0 _ _
-    c.in_ok-tasks.ensures.goes_on starts.opens in
-    let many = gone.well.kept.agrees.mirrors.processors.many in
-    let wants =
-    c.in_err-finish.ensures.ends w (ended-well w ended none gone)
-    (omega (arith, c.processors-processors.ensures, there, many)) in
+    let came =
+    came-to-end g.S.Sink.takes c.args.policies.now w _ _ c.args.self.now c.proceed.new.self starts c.in_ok-tasks.ensures.goes_on
+    none gone in
+    let wants = c.in_err-finish.ensures.ends w came.0 (omega (arith, c.processors-processors.ensures, came.1)) in
     err-by c.from_residual-in_err-finish.result c.from_residual-in_err-finish.ensures.1
     (λ e is ends. absurd (wants-no-end (sym (is ∙ wants) ∙ ends)))

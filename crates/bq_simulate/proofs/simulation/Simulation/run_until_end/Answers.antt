@@ -1,6 +1,5 @@
-use Rattle.std.proofs.Common.{◌≡◌, ◌≤◌, inl, inr, refl, sym, subst, ◌∙◌, arith}
-use Rattle.std.proofs.lemmas.Option.{MatchOption-at_none, MatchOption-at_some}
-use Rattle.bq_workload.specs.declared.periods.Periods.{Periods}
+use Rattle.std.proofs.Common.{◌≡◌, ◌≤◌, inl, inr, refl, sym, ◌∙◌, arith}
+use Rattle.std.proofs.lemmas.Option.{MatchOption-at_none}
 use Rattle.bq_workload.specs.Accounts.{accounts_of}
 use Rattle.bq_workload.specs.Next.{IsAgreed, IsNextDue, NothingComes}
 use Rattle.bq_simulate.specs.Simulations.{book_of}
@@ -9,7 +8,7 @@ use Rattle.bq_simulate.proofs.BookLemmas.{met-more}
 use Rattle.bq_simulate.proofs.DeedLemmas.{GoesOnBy-same, OnlyPlansOrCounts-here}
 use Rattle.bq_simulate.proofs.DueInOrderLemmas.{AreMet-none}
 use Rattle.bq_simulate.proofs.FewUntilEndLemmas.{bound-passed, counted-well, none-came}
-use Rattle.bq_simulate.proofs.GoesWellLemmas.{comes-well, err-by, met-well, wants-no-end}
+use Rattle.bq_simulate.proofs.GoesWellLemmas.{comes-well, err-by, given-well, met-well, next-given, wants-no-end}
 use Rattle.bq_simulate.proofs.WholeSimulationLemmas.{GoesOnFromBook-all, GoesOnFromBook-within}
 use Rattle.bq_simulate.proofs.simulation.Simulation.run_until_end.Goals as goal
 use Rattle.bq_simulate.proofs.simulation.Simulation.run_until_end.Goals.{then-now-last-via-then-now-last, then-now-last-via-else-now-last+then-now-end}
@@ -23,9 +22,7 @@ steps-preserved g c =
     let later : last ≤ now = omega (arith, c.if-now-last.false) in
     let here = c.steps.self.roster in
     let next : IsAgreed here → IsNextDue here.periods.end (accounts_of here) due now =
-    λ agreed.
-    MatchOption-at_some (NothingComes here.periods.end (accounts_of here))
-    (λ d. IsNextDue here.periods.end (accounts_of here) d.1 d.0) (now, due) c.in-Some.is (c.first.ensures.next agreed) in
+    λ agreed. next-given here now due _ c.in-Some.is (c.first.ensures.next agreed) in
     record {
       goes_on =
           met-more g.S.Sink.takes c.args.workload.now.tasks.items count last now due _ _ _ _ _ _ later next
@@ -81,30 +78,17 @@ returns-then-has_enough-clause-goes_on g c =
 -- what comes next is neither past nor beyond the end
 pub returns-in_err-handle_due-clause-ends : goal.returns-in_err-handle_due-clause-ends
 returns-in_err-handle_due-clause-ends g c = λ begins many bound.
-    let w = c.args.workload.now in
-    let here = c.steps.self.roster in
-    let due = c.in-Some.due in
-    let now = c.in-Some.now in
-    let well = c.steps.invariant.well begins in
-    let next =
-    MatchOption-at_some (NothingComes here.periods.end (accounts_of here))
-    (λ d. IsNextDue here.periods.end (accounts_of here) d.1 d.0) (now, due) c.in-Some.is (c.first.ensures.next well.agreed) in
-    let wants =
-    c.in_err-handle_due.ensures.ends (comes-well w c.steps.last now due c.steps.self well next).2
-    (subst (λ (p : Periods). IsNextDue p.end (accounts_of here) due now) well.periods next) in
+    let comes =
+    given-well c.args.workload.now c.steps.last c.in-Some.now c.in-Some.due c.steps.self _ c.in-Some.is c.first.ensures.next
+    (c.steps.invariant.well begins) in
+    let wants = c.in_err-handle_due.ensures.ends comes.2 comes.3 in
     err-by c.from_residual.result c.from_residual.ensures.1 (λ e is. inl (is ∙ wants))
 
 pub returns-then-now-last-clause-ends : goal.returns-then-now-last-clause-ends
 returns-then-now-last-clause-ends g c = λ begins many bound.
-    let w = c.args.workload.now in
-    let here = c.steps.self.roster in
-    let due = c.in-Some.due in
-    let now = c.in-Some.now in
-    let well = c.steps.invariant.well begins in
-    let next =
-    MatchOption-at_some (NothingComes here.periods.end (accounts_of here))
-    (λ d. IsNextDue here.periods.end (accounts_of here) d.1 d.0) (now, due) c.in-Some.is (c.first.ensures.next well.agreed) in
-    let comes = comes-well w c.steps.last now due c.steps.self well next in
+    let comes =
+    given-well c.args.workload.now c.steps.last c.in-Some.now c.in-Some.due c.steps.self _ c.in-Some.is c.first.ensures.next
+    (c.steps.invariant.well begins) in
     absurd (elim c.then-now-last.branch [
       | then-now-last-via-then-now-last v ↦ omega (arith, v.if-now-last.true, comes.0)
       | then-now-last-via-else-now-last+then-now-end v ↦ omega (arith, v.if-now-end.true, comes.1)
@@ -125,17 +109,10 @@ returns-clause-ends g c = λ begins many bound.
 -- a fault for memory is not the fault that there are too many steps
 pub returns-in_err-handle_due-clause-too_many_steps : goal.returns-in_err-handle_due-clause-too_many_steps
 returns-in_err-handle_due-clause-too_many_steps g c = λ begins.
-    let w = c.args.workload.now in
-    let here = c.steps.self.roster in
-    let due = c.in-Some.due in
-    let now = c.in-Some.now in
-    let well = c.steps.invariant.well begins in
-    let next =
-    MatchOption-at_some (NothingComes here.periods.end (accounts_of here))
-    (λ d. IsNextDue here.periods.end (accounts_of here) d.1 d.0) (now, due) c.in-Some.is (c.first.ensures.next well.agreed) in
-    let wants =
-    c.in_err-handle_due.ensures.ends (comes-well w c.steps.last now due c.steps.self well next).2
-    (subst (λ (p : Periods). IsNextDue p.end (accounts_of here) due now) well.periods next) in
+    let comes =
+    given-well c.args.workload.now c.steps.last c.in-Some.now c.in-Some.due c.steps.self _ c.in-Some.is c.first.ensures.next
+    (c.steps.invariant.well begins) in
+    let wants = c.in_err-handle_due.ensures.ends comes.2 comes.3 in
     err-by c.from_residual.result c.from_residual.ensures.1 (λ e is ends. absurd (wants-no-end (sym (is ∙ wants) ∙ ends)))
 
 pub returns-clause-too_many_steps : goal.returns-clause-too_many_steps
