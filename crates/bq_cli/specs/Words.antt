@@ -1,5 +1,6 @@
 -- The words of each command: the values that clap found for its options.
 use Rattle.std.specs.Prelude.{◌≡◌, ◌↔◌, ◌+◌, ◌&&◌, ℕ, Bool, false, IsTrue, List, [], Option, Some, String, codes, is_some, map, not, option_and_then, option_map, string_bytes, unwrap_or}
+use Rattle.std.specs.Borrow.{Bor}
 use Rattle.std.specs.List.{list_any}
 use Rattle.std.specs.Str.{bytes_eq}
 use Rattle.std.specs.declared.alloc.Global.{Global}
@@ -8,6 +9,8 @@ use Rattle.bq_hooks.specs.Hooks.{hook_of, version_of}
 use Rattle.bq_hooks.specs.declared.hook.Hook.{Hook}
 use Rattle.bq_hooks.specs.declared.hook.Version.{Version}
 use Rattle.bq_console.specs.Words.{GivesWord}
+use Rattle.bq_console.specs.declared.fault.WordsFault.{WordsFault}
+use Rattle.bq_console.specs.declared.fault.WordsFault.TheVariants.{OutOfMemory}
 use Rattle.bq_words.specs.Quantities.{size_in_word, decimal_of}
 use Rattle.bq_policy_check.specs.Given.{option_bytes}
 use Rattle.bq_policy_check.specs.declared.words.CheckWords.{CheckWords}
@@ -104,6 +107,14 @@ pub record AreRunWords (rows : List Row) (w : RunWords) : Type 0 where
   pub counters : AreAll (codes "counter") rows w.counters.items
   pub time : IsFirstWord (codes "time") rows w.time
   pub processor : IsFirstWord (codes "processor") rows w.processor
+
+-- there is a word, and it names this value
+abbrev pub NamesValue : {A : Type 0} → (List ℕ → Option A) → Option (Bor (List ℕ)) → A → Type 0
+NamesValue named word value = option_and_then named (option_map (λ w. w.now) word) ≡ Some value
+
+-- where a value is as it should be, nothing but memory is at fault
+abbrev pub OnlyMemoryFails : {A : Type 0} → (A → Type 0) → WordsFault → Type 0
+OnlyMemoryFails {A} IsRight why = (value : A) → IsRight value → why ≡ OutOfMemory
 
 -- a number of ticks
 abbrev pub ticks_of : List ℕ → Option ℕ

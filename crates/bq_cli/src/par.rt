@@ -1,18 +1,14 @@
 //! `par`: processors by threads of their own, and how long their one history is.
-ghost use Rattle.std.specs.Prelude.{◌≡◌, ℕ, List, Option, Some, true, IfOk, IfErr, OnOk, OnErr, option_map, option_and_then};
-ghost use Rattle.std.specs.Borrow.{Bor};
+ghost use Rattle.std.specs.Prelude.{◌≡◌, true, IfOk, IfErr, OnOk, OnErr};
 ghost use Rattle.clap.specs.Words.{found_of, rows_of};
 ghost use Rattle.bq_words.specs.Sizes.{discipline_named, processors_in};
-ghost use Rattle.bq_words.specs.declared.discipline_name.DisciplineName.{DisciplineName as Way};
-ghost use Rattle.bq_words.specs.declared.processor_count.ProcessorCount.{ProcessorCount as Many};
 ghost use Rattle.bq_words.specs.Quantities.{size_in_word};
 ghost use Rattle.bq_par.specs.Summaries.{IsHistorySummary};
 ghost use Rattle.bq_streams.specs.Counts.{counted_inner, failures_of};
 ghost use Rattle.bq_streams.specs.Faults.{IsWriteFault};
 ghost use Rattle.bq_trace.specs.Machines.{discipline_of};
-ghost use Rattle.bq_cli.specs.declared.par.ParWords.{ParWords as Asked};
 ghost use Rattle.bq_cli.specs.Performing.{WritesPar, WritesParInPart};
-ghost use Rattle.bq_cli.specs.Words.{AreParWords, ticks_of};
+ghost use Rattle.bq_cli.specs.Words.{AreParWords, NamesValue, OnlyMemoryFails, ticks_of};
 
 use crate::with_ticks;
 use bq_cfs::CfsQueue;
@@ -61,7 +57,7 @@ const TICKS: &str = with_ticks!("a number of ticks is ");
 /// The words that were found. A value that names nothing is refused.
 pub(crate) fn par_words(alloc: Global, matches: &ArgMatches<'_>) -> Result<ParWords, WordsFault>
     ensures ok { IfOk result (AreParWords (rows_of (found_of matches.now))) }
-    ensures taken { IfErr result (λ e. (p : Asked) → AreParWords (rows_of (found_of matches.now)) p → e ≡ WordsFault.OutOfMemory) }
+    ensures taken { IfErr result (OnlyMemoryFails (AreParWords (rows_of (found_of matches.now)))) }
 {
     let discipline = discipline_in(alloc, value(matches, "rule"))?;
     let size = size_in(alloc, value(matches, "processors"))?;
@@ -75,8 +71,8 @@ pub(crate) fn par_words(alloc: Global, matches: &ArgMatches<'_>) -> Result<ParWo
 
 /// The discipline that a word names.
 fn discipline_in(alloc: Global, word: Option<&str>) -> Result<DisciplineName, WordsFault>
-    ensures ok { IfOk result (λ r. option_and_then discipline_named (option_map (λ (w : Bor (List ℕ)). w.now) word.entry) ≡ Some r) }
-    ensures taken { IfErr result (λ e. (r : Way) → option_and_then discipline_named (option_map (λ (w : Bor (List ℕ)). w.now) word.entry) ≡ Some r → e ≡ WordsFault.OutOfMemory) }
+    ensures ok { IfOk result (NamesValue discipline_named word.entry) }
+    ensures taken { IfErr result (OnlyMemoryFails (NamesValue discipline_named word.entry)) }
 {
     let Some(word) = word else {
         return Err(refused_value(alloc, "rule", "", DISCIPLINE, DISCIPLINE_WORDS));
@@ -89,8 +85,8 @@ fn discipline_in(alloc: Global, word: Option<&str>) -> Result<DisciplineName, Wo
 
 /// The number of processors that a word names.
 fn size_in(alloc: Global, word: Option<&str>) -> Result<ProcessorCount, WordsFault>
-    ensures ok { IfOk result (λ s. option_and_then size_in_word (option_map (λ (w : Bor (List ℕ)). w.now) word.entry) ≡ Some s) }
-    ensures taken { IfErr result (λ e. (s : Many) → option_and_then size_in_word (option_map (λ (w : Bor (List ℕ)). w.now) word.entry) ≡ Some s → e ≡ WordsFault.OutOfMemory) }
+    ensures ok { IfOk result (NamesValue size_in_word word.entry) }
+    ensures taken { IfErr result (OnlyMemoryFails (NamesValue size_in_word word.entry)) }
 {
     let Some(word) = word else {
         return Err(refused_value(alloc, "processors", "", SIZE, ""));
@@ -103,8 +99,8 @@ fn size_in(alloc: Global, word: Option<&str>) -> Result<ProcessorCount, WordsFau
 
 /// The number of ticks that a word names.
 fn ticks_in(alloc: Global, word: Option<&str>) -> Result<u32, WordsFault>
-    ensures ok { IfOk result (λ n. option_and_then ticks_of (option_map (λ (w : Bor (List ℕ)). w.now) word.entry) ≡ Some n) }
-    ensures taken { IfErr result (λ e. (n : ℕ) → option_and_then ticks_of (option_map (λ (w : Bor (List ℕ)). w.now) word.entry) ≡ Some n → e ≡ WordsFault.OutOfMemory) }
+    ensures ok { IfOk result (NamesValue ticks_of word.entry) }
+    ensures taken { IfErr result (OnlyMemoryFails (NamesValue ticks_of word.entry)) }
 {
     let Some(word) = word else {
         return Err(refused_value(alloc, "ticks", "", TICKS, ""));

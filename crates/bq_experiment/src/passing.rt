@@ -89,7 +89,8 @@ impl<S: Texts, W: Write, E: Write> Passing<'_, S, W, E> {
 
     /// Writes what has come once it is a piece, or there is a note.
     fn pass_on(&mut self) -> Result<(), AllocError>
-        ensures { OnOk result (IsPassedOn S.pending S.clears self.old.sink (W.contents (counted_inner self.old.output)) self.new.sink (W.contents (counted_inner self.new.output))) }
+        ensures { OnOk result (IsPassedOn S.pending S.clears self.old.sink (W.contents (counted_inner self.old.output))
+            self.new.sink (W.contents (counted_inner self.new.output))) }
     {
         if self.sink.text().len() < PIECE && self.sink.notes().is_empty() {
             return Ok(());

@@ -1,5 +1,5 @@
 -- The limits that the words of a command set.
-use Rattle.std.specs.Prelude.{◌≡◌, ℕ, ◌^◌, ℤ, pos, List, [], ◌∷◌, Some, option_map}
+use Rattle.std.specs.Prelude.{◌≡◌, ℕ, ◌^◌, ℤ, pos, Bool, MatchBool, List, [], ◌∷◌, Some, option_map}
 use Rattle.std.specs.List.{AllZip}
 use Rattle.std.specs.declared.alloc.Global.{Global}
 use Rattle.std.specs.declared.vec.Vec.{Vec}
@@ -26,6 +26,10 @@ IsHook word hook = hook_of word ≡ Some hook
 abbrev pub words_of_list : List ℕ → List (List ℕ)
 words_of_list [] = []
 words_of_list (c ∷ rest) = parts 44 (c ∷ rest)
+
+-- whether each part between commas writes such a value: then these are the values, in their turn
+abbrev pub ReadsParts : {A : Type 0} → (List ℕ → A → Type 0) → List ℕ → List A → Bool → Type 0
+ReadsParts {A} Writes text values all = MatchBool all (AllZip Writes (parts 44 text) values) ((others : List A) → ¬ AllZip Writes (parts 44 text) others)
 
 -- each part writes a helper, in its turn
 abbrev pub NamesHelpers : List ℕ → Vec ℤ Global → Type 0

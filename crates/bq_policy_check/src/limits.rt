@@ -1,11 +1,8 @@
 //! A keeper's own limits, from the words of a command.
-ghost use Rattle.std.specs.Prelude.{◌≡◌, [], List, ℤ, IfErr, IfOk, MatchBool, MatchOption};
-ghost use Rattle.std.specs.List.{AllZip};
-ghost use Rattle.bq_words.specs.Words.{parts};
+ghost use Rattle.std.specs.Prelude.{◌≡◌, [], IfErr, IfOk, MatchOption};
 ghost use Rattle.bq_console.specs.Words.{GivesNone, GivesWord};
-ghost use Rattle.bq_hooks.specs.declared.hook.Hook.{Hook as Place};
 ghost use Rattle.bq_policy_check.specs.Given.{option_bytes};
-ghost use Rattle.bq_policy_check.specs.Limiting.{HasLimits, IsHelperWord, IsHook, IsMost, NamesHelpers, NamesHooks, NamesNoHelpers, NamesNoHooks};
+ghost use Rattle.bq_policy_check.specs.Limiting.{HasLimits, IsHelperWord, IsHook, IsMost, NamesHelpers, NamesHooks, NamesNoHelpers, NamesNoHooks, ReadsParts};
 
 use crate::given::HOOK_WORDS;
 use crate::numbers::{helper, small_number};
@@ -111,7 +108,7 @@ fn hooks_of(alloc: Global, text: &str) -> Result<Option<Vec<Hook>>, AllocError>
 /// Adds the hooks of a comma-separated text, up to the first part that is no hook. Returns whether all parts are hooks.
 fn push_hooks(hooks: &mut Vec<Hook>, text: &str) -> Result<bool, AllocError>
     requires { hooks.old.items ≡ [] }
-    ensures { IfOk result (λ all. MatchBool all (AllZip IsHook (parts 44 text.now) hooks.new.items) ((hooks : List Place) → ¬ AllZip IsHook (parts 44 text.now) hooks)) }
+    ensures { IfOk result (ReadsParts IsHook text.now hooks.new.items) }
 {
     for part in text.split(',') {
         match Hook::of_word(part.as_bytes()) {
@@ -164,7 +161,7 @@ fn numbers_of(alloc: Global, text: &str) -> Result<Option<Vec<i32>>, AllocError>
 /// Adds the helpers of a comma-separated text, up to the first part that is no helper's number. Returns whether all parts are.
 fn push_numbers(numbers: &mut Vec<i32>, text: &str) -> Result<bool, AllocError>
     requires { numbers.old.items ≡ [] }
-    ensures { IfOk result (λ all. MatchBool all (AllZip IsHelperWord (parts 44 text.now) numbers.new.items) ((helpers : List ℤ) → ¬ AllZip IsHelperWord (parts 44 text.now) helpers)) }
+    ensures { IfOk result (ReadsParts IsHelperWord text.now numbers.new.items) }
 {
     for part in text.split(',') {
         match helper(part.as_bytes()) {

@@ -1,7 +1,9 @@
 -- What a run changed, in words.
-use Rattle.std.specs.Prelude.{ℕ, ◌+◌, ◌%◌, ◌^◌, Bool, not, nat_eq, List, [], ◌++◌, codes, filter, length, slice_get, if◌then◌else◌}
+use Rattle.std.specs.Prelude.{ℕ, ◌+◌, ◌%◌, ◌^◌, Bool, not, nat_eq, List, [], ◌++◌, codes, filter, length, map, slice_get, if◌then◌else◌}
 use Rattle.std.specs.Fmt.{decimal}
 use Rattle.std.specs.List.{flat_map, range_with_len}
+use Rattle.std.specs.declared.alloc.Global.{Global}
+use Rattle.std.specs.declared.vec.Vec.{Vec}
 use lib.Pointwise.{pointwise}
 use Rattle.hex.specs.Hex.{encode_lower}
 use Rattle.bq_bpf.specs.declared.board.CounterCall.{CounterCall}
@@ -11,6 +13,10 @@ use Rattle.bq_maps.specs.Arrays.{Arrays, entries_in, entry_of}
 -- maps of these shapes, with these bytes
 abbrev pub with_all : Arrays → List (List ℕ) → Arrays
 with_all maps bytes = record maps { bytes = bytes }
+
+-- maps of these shapes, with the bytes that are in these vectors
+abbrev pub with_bytes : Arrays → List (Vec ℕ Global) → Arrays
+with_bytes maps all = with_all maps (map (λ v. v.items) all)
 
 -- the bytes of an entry are other than before
 abbrev pub is_changed : Arrays → Arrays → ℕ → ℕ → Bool
