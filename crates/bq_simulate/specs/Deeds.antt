@@ -70,6 +70,10 @@ pub record Book : Type 0 where
 abbrev pub accounts_pulled : ℕ → ℕ → Option ℕ → Accounts → Accounts
 accounts_pulled from to task a = option_map_or (λ _. accounts_passed from to a) task a
 
+-- the accounts after a pull: a task was taken, if one was, and the processor runs `run` now
+abbrev pub accounts_after_pull : Periods → ℕ → ℕ → Option ℕ → Option ℕ → ℕ → Accounts → Accounts
+accounts_after_pull periods processor from task run now a = accounts_switched processor run now periods (accounts_pulled from processor task a)
+
 -- the accounts after an answer: if another task runs now, the time of the one before is counted; a woken task has no phase yet
 abbrev pub after_event : Periods → Event → Reply → Accounts → Accounts
 after_event periods (BeginWake processor task) reply a = of_task progress_woken task a

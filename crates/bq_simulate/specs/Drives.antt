@@ -128,3 +128,8 @@ Drives d (event ∷ events) reported e =
 -- events are done one after another, and a sink gets what comes of them
 abbrev pub EventsAreDriven : {S : Type 0} → SinkTakes S → S → Driver → List Event → S → Driver → Type 0
 EventsAreDriven takes old d events new e = Gets takes old new (λ reported. Drives d events reported e)
+
+-- a task is woken from a processor, and some processor takes it in at the same instant: a sink gets what comes of all three events
+abbrev pub WakeIsDriven : {S : Type 0} → SinkTakes S → S → Driver → ℕ → ℕ → ℕ → S → Driver → Type 0
+WakeIsDriven takes old d from task now new e =
+    (to : ℕ) × EventsAreDriven takes old d (BeginWake from task ∷ EndWake from now ∷ Drain to now ∷ []) new e

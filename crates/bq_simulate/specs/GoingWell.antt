@@ -2,9 +2,12 @@
 use Rattle.std.specs.Prelude.{◌≡◌, ◌≢◌, ◌⊎◌, ◌<◌, ◌≤◌, ◌+◌, ◌*◌, ◌^◌, ℕ, true, List, Option, None, Some, length, slice_get}
 use Rattle.bq_disc.specs.declared.limits.TheConstants.{PROCESSORS}
 use Rattle.bq_parts.specs.World.{World, count_in}
+use Rattle.bq_verify.specs.Accepted.{Accepted}
 use Rattle.bq_words.specs.Sizes.{processors_in}
+use Rattle.bq_trace.specs.TraceEvents.{Gets}
 use Rattle.bq_workload.specs.declared.action.Action.{Action}
 use Rattle.bq_workload.specs.declared.action.Action.TheVariants.{Run, Wake}
+use Rattle.bq_workload.specs.declared.due.Due.{Due}
 use Rattle.bq_workload.specs.declared.progress.TaskProgress.{TaskProgress}
 use Rattle.bq_workload.specs.declared.workload.TaskKind.{TaskKind}
 use Rattle.bq_workload.specs.declared.workload.Workload.{Workload}
@@ -12,7 +15,7 @@ use Rattle.bq_workload.specs.declared.periods.Periods.{Periods}
 use Rattle.bq_workload.specs.Accounts.{Accounts, accounts_of}
 use Rattle.bq_workload.specs.Bounds.{steps_at_once}
 use Rattle.bq_workload.specs.Kinds.{kind_count}
-use Rattle.bq_workload.specs.Next.{IsAgreed}
+use Rattle.bq_workload.specs.Next.{IsAgreed, IsNextDue}
 use Rattle.bq_workload.specs.Soundness.{first_flaw}
 use Rattle.bq_workload.specs.Strays.{IsStrayPass, IsStraySwitch}
 use Rattle.bq_simulate.specs.declared.driver.Driver.{Driver}
@@ -22,8 +25,9 @@ use Rattle.bq_simulate.specs.declared.simulation.Simulation.{Simulation}
 use Rattle.bq_simulate.specs.Actions.{first_task_of}
 use Rattle.bq_simulate.specs.Agreement.{AgreesBut, AgreesWith, IsOnTime, runner_at}
 use Rattle.bq_simulate.specs.Deeds.{Book, is_busy, accounts_pulled}
+use Rattle.bq_simulate.specs.Drives.{SinkTakes}
 use Rattle.bq_simulate.specs.Kept.{HasAllFirsts, IsKept, IsNewerFrom, StandAtActions, WereDrawn}
-use Rattle.bq_simulate.specs.Simulations.{HasDrawn, HasFirsts, book_of, periods_of}
+use Rattle.bq_simulate.specs.Simulations.{HasDrawn, HasFirsts, IsTooLong, book_of, periods_of}
 
 -- The simulation of a workload without flaws has come to an instant until its end, and all is kept: by its machine, its
 -- accounts, its event queue, the streams of its tasks and the first task of each kind.
@@ -42,6 +46,20 @@ pub record SimulationGoesWell (w : Workload) (now : ℕ) (s : Simulation) : Type
 pub record HasGoneWell (w : Workload) (s : Simulation) : Type 0 where
   pub now : ℕ
   pub well : SimulationGoesWell w now s
+
+-- the simulation has been opened, and goes well at instant 0
+abbrev pub HasOpenedWell : Workload → Simulation → Type 0
+HasOpenedWell w s = SimulationGoesWell w 0 s
+
+-- if the simulation goes well until an instant, and this comes due next, at that instant, then `Then` holds
+abbrev pub IfNextDue : Workload → Due → ℕ → Simulation → Type 0 → Type 0
+IfNextDue w due now s Then = SimulationGoesWell w now s → IsNextDue w.machine.duration (accounts_of s.roster) due now → Then
+
+-- if the simulation goes well until an instant, a task runs at the processor, and a task of the kind is left that it has not woken,
+-- then `Then` holds
+abbrev pub IfTaskLeft : Workload → ℕ → ℕ → ℕ → ℕ → Simulation → Type 0 → Type 0
+IfTaskLeft w processor kind woken now s Then =
+    SimulationGoesWell w now s → is_busy (accounts_of s.roster) processor ≡ true → woken < kind_count w.tasks.items kind → Then
 
 -- a simulation has as many processors as its workload says
 abbrev pub HasProcessors : Workload → Simulation → Type 0
@@ -115,6 +133,12 @@ pub record HasGenerations (count : ℕ) (w : World) : Type 0 where
 abbrev pub HasNewer : ℕ → ℕ → Simulation → Type 0
 HasNewer count generation s = HasGenerations count s.driver.machine.world × IsNewerFrom 0 generation s.driver.machine.world
 
+-- if the simulation opens well and has no task yet, the generation is newer than each one at a hook, and these are all processors
+-- of the workload, then `Then` holds
+abbrev pub IfNewer : ℕ → ℕ → Simulation → Type 0 → Type 0
+IfNewer processors generation s Then =
+    (w : Workload) (count : ℕ) → OpensWell w 0 s → HasNewer count generation s → processors ≡ processors_in w.machine.size → Then
+
 -- nothing of it was done yet: there are no tasks and no kinds, and no generation was drawn
 pub record StartsWell (w : Workload) (s : Simulation) : Type 0 where
   pub opens : OpensWell w 0 s
@@ -136,6 +160,10 @@ EndsEarly w why = (why ≡ OutOfMemory) ⊎ HasTooManySteps w why
 -- this holds if the fault is that there are too many steps
 abbrev pub IfTooManySteps : Type 0 → SimulateFault → Type 0
 IfTooManySteps Holds why = why ≡ TooManySteps → Holds
+
+-- if the fault is that there are too many steps, a sink got a simulation that is too long
+abbrev pub GetsIfTooLong : {S : Type 0} → SinkTakes S → List Accepted → Workload → S → S → SimulateFault → Type 0
+GetsIfTooLong takes policies w old new = IfTooManySteps (Gets takes old new (IsTooLong policies w))
 
 -- memory ran out, or the sink has enough, or the most things came due and 64 bits do not count the bound of its steps
 abbrev pub IsCutOff : Workload → SimulateFault → Type 0

@@ -14,11 +14,12 @@ use Rattle.bq_simulate.specs.declared.driver.Driver.{Driver}
 use Rattle.bq_simulate.specs.Drives.{Starts, Drives, SinkTakes}
 use Rattle.bq_workload.specs.Accounts.{accounts_of, is_over, opening_accounts}
 use Rattle.bq_simulate.specs.declared.simulation.Simulation.{Simulation}
-use Rattle.bq_simulate.specs.Actions.{IsTaskOfKind, first_task_of, next_length, kind_start}
+use Rattle.bq_simulate.specs.declared.acting.Doing.{Doing}
+use Rattle.bq_simulate.specs.Actions.{IsTaskOfKind, aim_in, first_task_of, next_length, kind_start}
 use Rattle.bq_workload.specs.Bounds.{most_steps}
 use Rattle.bq_workload.specs.Next.{IsAgreed, NothingComes, StaysAgreed}
 use Rattle.bq_simulate.specs.Deeds.{Book, Deed, DeedsLead, after_deeds, events_of}
-use Rattle.bq_simulate.specs.Steps.{AreAllMet, AreJustEvents, AreMet, IsJoin, Opens, last_ticks}
+use Rattle.bq_simulate.specs.Steps.{AreAllMet, AreJustEvents, AreMet, IsAct, IsJoin, Opens, last_ticks}
 
 -- a workload with another seed
 abbrev pub with_seed : Workload → ℕ → Workload
@@ -167,6 +168,10 @@ GoesOnFromBook takes kinds Are old s new t = (drawn : List ℕ) → HasDrawn s d
 abbrev pub GoesOnForAnyKinds : {S : Type 0} → SinkTakes S → (List Deed → Type 0) → S → Simulation → S → Simulation → Type 0
 GoesOnForAnyKinds takes Are old s new t = (kinds : List TaskKind) → GoesOnBy takes kinds Are old s new t
 
+-- it goes on by deeds of this sort, by the kinds of its tasks, whatever they are
+abbrev pub GoesOnByKinds : {S : Type 0} → SinkTakes S → (List TaskKind → List Deed → Type 0) → S → Simulation → S → Simulation → Type 0
+GoesOnByKinds takes Are old s new t = (kinds : List TaskKind) → GoesOnBy takes kinds (Are kinds) old s new t
+
 -- it goes on by deeds of which nothing is reported
 pub record GoesByUnreportedDeeds (kinds : List TaskKind) (Are : List Deed → Type 0) (s : Simulation) (drawn : List ℕ) (t : Simulation) : Type 0 where
   pub deeds : List Deed
@@ -183,6 +188,14 @@ pub record GoesByUnreportedDeeds (kinds : List TaskKind) (Are : List Deed → Ty
 -- from a state whose streams and firsts are right, the simulation goes on by deeds of this sort, and reports nothing
 abbrev pub GoesOnUnreported : List TaskKind → (List Deed → Type 0) → Simulation → Simulation → Type 0
 GoesOnUnreported kinds Are s t = (drawn : List ℕ) → HasDrawn s drawn → HasFirsts kinds s → GoesByUnreportedDeeds kinds Are s drawn t
+
+-- a task takes up its next action, as `doing` says
+abbrev pub TakesUpAction : List TaskKind → ℕ → ℕ → Simulation → Simulation → Doing → Type 0
+TakesUpAction kinds processor now s t doing = GoesOnUnreported kinds (IsAct processor doing.task now doing.action (aim_in kinds doing)) s t
+
+-- the kind with this number begins, and no deed is done: if each task has a stream, and all tasks of the kinds before it are there
+abbrev pub BeginsKind : ℕ → Simulation → Simulation → Type 0
+BeginsKind number s t = (kinds : List TaskKind) → length s.streams.items ≡ first_task_of kinds number → GoesOnUnreported kinds (AreJustEvents []) s t
 
 -- one more task is there, with this home, of a kind that starts then: if it is the next of its kind, and each task has a stream
 abbrev pub JoinsNext : ℕ → ℕ → ℕ → Simulation → Simulation → Type 0

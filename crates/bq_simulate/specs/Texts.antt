@@ -1,11 +1,10 @@
 -- The text of a trace that events write: a line for each machine, event and comment, in order.
 use Rattle.std.specs.Prelude.{◌≡◌, ℕ, List, [], ◌∷◌, ◌++◌, Option, None, if◌then◌else◌}
-use Rattle.std.specs.Borrow.{Bor}
-use Rattle.std.specs.Option.{option_map}
 use Rattle.std.specs.Str.{is_utf8}
 use Rattle.bq_parts.specs.declared.event.Event.{Event}
 use Rattle.bq_parts.specs.declared.event.Event.TheVariants.{Install}
 use Rattle.bq_simulate.specs.Spelling.{HasFittingNumbers, asking_line, machine_line}
+use Rattle.bq_trace.specs.Borrowed.{optional_bytes}
 use Rattle.bq_trace.specs.Feeding.{with_feeds}
 use Rattle.bq_trace.specs.TraceEvents.{TraceEvent, Reported, Opened, Skipped, Comes}
 use Rattle.bq_hooks.specs.declared.hook.Hook.{Hook}
@@ -16,15 +15,11 @@ use Rattle.bq_simulate.specs.declared.images.Images.{Images}
 abbrev pub ByHook : Type 0
 ByHook = Hook → Option (List ℕ)
 
--- the bytes of an image, if there is one
-abbrev pub optional_image_bytes : Option (Bor (List ℕ)) → Option (List ℕ)
-optional_image_bytes image = option_map (λ b. b.now) image
-
 -- the bytes of the image at a hook, if there is one
 abbrev pub image_at : Images → ByHook
-image_at images hooks.Place = optional_image_bytes images.place
-image_at images hooks.Preempt = optional_image_bytes images.preempt
-image_at images hooks.Pull = optional_image_bytes images.pull
+image_at images hooks.Place = optional_bytes images.place
+image_at images hooks.Preempt = optional_bytes images.preempt
+image_at images hooks.Pull = optional_bytes images.pull
 
 -- the image that an event brings
 abbrev pub brought : ByHook → Event → Option (List ℕ)

@@ -1,18 +1,14 @@
 //! What a task does next, once it has run long enough.
-ghost use Rattle.std.specs.Prelude.{◌≡◌, ◌⊎◌, ◌+◌, ◌<◌, ◌≤◌, true, false, [], ◌∷◌, IfErr, IfOk, List, None, OnOk, Some, length, slice_get};
+ghost use Rattle.std.specs.Prelude.{◌≡◌, ◌⊎◌, ◌+◌, ◌≤◌, false, [], ◌∷◌, IfErr, IfOk, None, OnOk, Some, length, slice_get};
 ghost use Rattle.bq_parts.specs.declared.event.Event.TheVariants.{Block};
 ghost use Rattle.bq_workload.specs.TaskProgress.{phase_begun};
 ghost use Rattle.bq_workload.specs.Kinds.{kind_count};
 ghost use Rattle.bq_workload.specs.Lengths.{is_length};
-ghost use Rattle.bq_workload.specs.declared.workload.TaskKind.{TaskKind};
 ghost use Rattle.bq_workload.specs.declared.workload.Workload.{Workload};
 ghost use Rattle.bq_simulate.specs.Actions.{acted, action_at, action_count, asleep_for, advanced_in, aim_in, asked_by, first_task_of, next_action, resting, woken_one_in};
-ghost use Rattle.bq_workload.specs.Accounts.{accounts_of};
-ghost use Rattle.bq_workload.specs.Next.{IsNextDue};
-ghost use Rattle.bq_simulate.specs.Deeds.{is_busy};
-ghost use Rattle.bq_simulate.specs.GoingWell.{CanFollow, FallsAsleep, SimulationGoesWell, IsStrayAction, WantsMemory};
-ghost use Rattle.bq_simulate.specs.Simulations.{GoesOnForAnyKinds, DrawsFor, GoesOnBy, OnlyPlansOrCounts, GoesOnUnreported};
-ghost use Rattle.bq_simulate.specs.Steps.{AreJustEvents, FollowsAction, IsAct, DeedsMeet, WakesTask};
+ghost use Rattle.bq_simulate.specs.GoingWell.{CanFollow, FallsAsleep, IfNextDue, IfTaskLeft, IsStrayAction, WantsMemory};
+ghost use Rattle.bq_simulate.specs.Simulations.{GoesOnForAnyKinds, DrawsFor, GoesOnBy, GoesOnByKinds, OnlyPlansOrCounts, TakesUpAction};
+ghost use Rattle.bq_simulate.specs.Steps.{AreJustEvents, FollowsAction, DeedsMeet, WakesTask};
 
 use crate::fault::SimulateFault;
 use crate::simulation::Simulation;
@@ -164,7 +160,7 @@ impl Simulation {
         sink: &mut S,
     ) -> Result<(), SimulateFault>
         ensures goes_on { OnOk result (GoesOnBy S.takes workload.now.tasks.items (DeedsMeet (Due.End processor) now) sink.old self.old sink.new self.new) }
-        ensures ends { SimulationGoesWell workload.now now self.old → IsNextDue workload.now.machine.duration (accounts_of self.old.roster) (Due.End processor) now → IfErr result WantsMemory }
+        ensures ends { IfNextDue workload.now (Due.End processor) now self.old (IfErr result WantsMemory) }
     {
         let doing = self.take_action(workload, processor, now)?;
         self.follow(alloc, processor, &doing, now, sink)
@@ -178,8 +174,8 @@ impl Simulation {
         processor: u8,
         now: u64,
     ) -> Result<Doing, BrokenInvariant>
-        ensures acts { IfOk result (λ doing. GoesOnUnreported workload.now.tasks.items (IsAct processor doing.task now doing.action (aim_in workload.now.tasks.items doing)) self.old self.new) }
-        ensures ends { SimulationGoesWell workload.now now self.old → IsNextDue workload.now.machine.duration (accounts_of self.old.roster) (Due.End processor) now → IfErr result (λ _. ⊥) }
+        ensures acts { IfOk result (TakesUpAction workload.now.tasks.items processor now self.old self.new) }
+        ensures ends { IfNextDue workload.now (Due.End processor) now self.old (IfErr result (λ _. ⊥)) }
     {
         let (task, before) = self.roster.end_phase(processor, now)?;
         let action = next_of(workload, &before)?;
@@ -213,7 +209,7 @@ impl Simulation {
         now: u64,
         sink: &mut S,
     ) -> Result<(), SimulateFault>
-        ensures goes_on { OnOk result ((kinds : List TaskKind) → GoesOnBy S.takes kinds (FollowsAction doing.now.action (aim_in kinds doing.now) processor now) sink.old self.old sink.new self.new) }
+        ensures goes_on { OnOk result (GoesOnByKinds S.takes (λ kinds. FollowsAction doing.now.action (aim_in kinds doing.now) processor now) sink.old self.old sink.new self.new) }
         ensures ends { (w : Workload) → CanFollow w doing.now.action doing.now.before processor now self.old → IfErr result WantsMemory }
     {
         match doing.action {
@@ -254,8 +250,8 @@ impl Simulation {
         now: u64,
         sink: &mut S,
     ) -> Result<(), SimulateFault>
-        ensures goes_on { OnOk result ((kinds : List TaskKind) → GoesOnBy S.takes kinds (WakesTask (first_task_of kinds kind + woken) processor now) sink.old self.old sink.new self.new) }
-        ensures ends { (w : Workload) → SimulationGoesWell w now self.old → is_busy (accounts_of self.old.roster) processor ≡ true → woken < kind_count w.tasks.items kind → IfErr result WantsMemory }
+        ensures goes_on { OnOk result (GoesOnByKinds S.takes (λ kinds. WakesTask (first_task_of kinds kind + woken) processor now) sink.old self.old sink.new self.new) }
+        ensures ends { (w : Workload) → IfTaskLeft w processor kind woken now self.old (IfErr result WantsMemory) }
     {
         let first = self.first_of(kind)?;
         let target = first

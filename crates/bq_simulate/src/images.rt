@@ -1,7 +1,6 @@
 //! The images of the policies that are installed at the hooks of all processors.
-ghost use Rattle.std.specs.Prelude.{◌≡◌, ℕ, List};
-ghost use Rattle.std.specs.Borrow.{Bor};
-ghost use Rattle.std.specs.Option.{option_map};
+ghost use Rattle.std.specs.Prelude.{◌≡◌};
+ghost use Rattle.bq_trace.specs.Borrowed.{optional_bytes};
 ghost use Rattle.bq_simulate.specs.Texts.{image_at};
 
 use bq_hooks::Hook;
@@ -17,7 +16,7 @@ pub struct Images<'a> {
 impl<'a> Images<'a> {
     /// The image for a hook.
     pub fn at(self, hook: Hook) -> Option<&'a [u8]>
-        ensures { option_map (λ (b : Bor (List ℕ)). b.now) result ≡ image_at self.entry hook }
+        ensures { optional_bytes result ≡ image_at self.entry hook }
     {
         match hook {
             Hook::Place => self.place,

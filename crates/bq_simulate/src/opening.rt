@@ -1,14 +1,13 @@
 //! How a simulation begins: policies are installed, and tasks are admitted.
-ghost use Rattle.std.specs.Prelude.{◌≡◌, ◌≢◌, ◌+◌, ◌<◌, ℕ, [], ◌∷◌, IfErr, IfOk, OnOk, Some, List, length, slice_get};
+ghost use Rattle.std.specs.Prelude.{◌≡◌, ◌≢◌, ◌+◌, ◌<◌, ℕ, [], ◌∷◌, IfErr, IfOk, OnOk, Some, length, slice_get};
 ghost use Rattle.bq_disc.specs.declared.limits.TheConstants.{TASKS};
 ghost use Rattle.bq_parts.specs.declared.event.Event.TheVariants.{Admit};
 ghost use Rattle.bq_workload.specs.Kinds.{tasks_in};
-ghost use Rattle.bq_workload.specs.declared.workload.TaskKind.{TaskKind};
 ghost use Rattle.bq_workload.specs.declared.workload.Workload.{Workload};
 ghost use Rattle.bq_simulate.specs.Actions.{first_task_of};
 ghost use Rattle.bq_simulate.specs.Kept.{HasAllFirsts};
-ghost use Rattle.bq_simulate.specs.GoingWell.{HasGenerations, HasNewer, OpensBefore, OpensWell, StartsWell, WantsMemory};
-ghost use Rattle.bq_simulate.specs.Simulations.{GoesOnForAnyKinds, JoinsNext, GoesOnBy, OnlyPlansOrCounts, GoesOnUnreported};
+ghost use Rattle.bq_simulate.specs.GoingWell.{HasGenerations, HasNewer, IfNewer, OpensBefore, OpensWell, StartsWell, WantsMemory};
+ghost use Rattle.bq_simulate.specs.Simulations.{BeginsKind, GoesOnForAnyKinds, JoinsNext, GoesOnBy, OnlyPlansOrCounts};
 ghost use Rattle.bq_simulate.specs.Steps.{AreAdmissions, AreInstalled, AreJustEvents, AreKindAdmissions, IsAdmissible, installs_of};
 ghost use Rattle.bq_words.specs.Sizes.{processors_in};
 
@@ -57,7 +56,7 @@ impl Simulation {
         ensures firsts { self.new.firsts ≡ self.old.firsts }
         ensures counts { self.new.counts ≡ self.old.counts }
         ensures generations { OnOk result ((count : ℕ) → HasNewer count generation self.old → HasGenerations count self.new.driver.machine.world) }
-        ensures ends { (w : Workload) (count : ℕ) → OpensWell w 0 self.old → HasNewer count generation self.old → processors ≡ processors_in w.machine.size → IfErr result WantsMemory }
+        ensures ends { IfNewer processors generation self.old (IfErr result WantsMemory) }
     {
         'processors: for processor in 0..processors {
             let copy = policy.clone()?;
@@ -121,7 +120,7 @@ impl Simulation {
 
     /// The next task is the first of the next kind, which has this number.
     fn begin_kind(&mut self, number: usize) -> Result<(), SimulateFault>
-        ensures goes_on { OnOk result ((kinds : List TaskKind) → length self.old.streams.items ≡ first_task_of kinds number → GoesOnUnreported kinds (AreJustEvents []) self.old self.new) }
+        ensures goes_on { OnOk result (BeginsKind number self.old self.new) }
         ensures by_task { self.new.roster ≡ self.old.roster }
         ensures streams { self.new.streams ≡ self.old.streams }
         ensures firsts { OnOk result (length self.new.firsts.items ≡ length self.old.firsts.items + 1) }

@@ -1,14 +1,14 @@
 //! A simulation on its way.
-ghost use Rattle.std.specs.Prelude.{◌≡◌, ◌≢◌, ◌⊎◌, ℕ, ◌<◌, false, [], ◌∷◌, IfOk, IfErr, None, OnOk, length, slice_get};
-ghost use Rattle.bq_parts.specs.declared.event.Event.TheVariants.{BeginWake, EndWake, Drain, Pull, Tick};
-ghost use Rattle.bq_simulate.specs.Drives.{EventsAreDriven};
-ghost use Rattle.bq_workload.specs.Accounts.{accounts_of, accounts_switched};
-ghost use Rattle.bq_workload.specs.Next.{IsAgreed, IsNextDue, StaysAgreed};
+ghost use Rattle.std.specs.Prelude.{◌≡◌, ◌≢◌, ◌⊎◌, ◌<◌, false, [], ◌∷◌, IfOk, IfErr, None, OnOk, length, slice_get};
+ghost use Rattle.bq_parts.specs.declared.event.Event.TheVariants.{Pull, Tick};
+ghost use Rattle.bq_simulate.specs.Drives.{WakeIsDriven};
+ghost use Rattle.bq_workload.specs.Accounts.{accounts_of};
+ghost use Rattle.bq_workload.specs.Next.{IsAgreed, StaysAgreed};
 ghost use Rattle.bq_workload.specs.Strays.{IsStrayPass};
-ghost use Rattle.bq_simulate.specs.Deeds.{IsWoken, accounts_pulled};
+ghost use Rattle.bq_simulate.specs.Deeds.{IsWoken, accounts_after_pull, accounts_pulled};
 ghost use Rattle.bq_workload.specs.Lengths.{is_length};
 ghost use Rattle.bq_workload.specs.declared.workload.Workload.{Workload};
-ghost use Rattle.bq_simulate.specs.GoingWell.{SimulationGoesWell, HasBoth, IsStrayPull, WantsMemory};
+ghost use Rattle.bq_simulate.specs.GoingWell.{SimulationGoesWell, HasBoth, IfNextDue, IsStrayPull, WantsMemory};
 ghost use Rattle.bq_simulate.specs.Simulations.{DrawsLength, GoesOnBy, GoesOnForAnyKinds, opening_book, periods_of};
 ghost use Rattle.bq_simulate.specs.Steps.{AreJustEvents, AreWake, DeedsMeet};
 
@@ -83,7 +83,7 @@ impl Simulation {
         sink: &mut S,
     ) -> Result<(), SimulateFault>
         ensures goes_on { OnOk result (GoesOnBy S.takes workload.now.tasks.items (DeedsMeet due now) sink.old self.old sink.new self.new) }
-        ensures ends { SimulationGoesWell workload.now now self.old → IsNextDue workload.now.machine.duration (accounts_of self.old.roster) due now → IfErr result WantsMemory }
+        ensures ends { IfNextDue workload.now due now self.old (IfErr result WantsMemory) }
     {
         match due {
             Due::End(processor) => self.act(alloc, workload, processor, now, sink),
@@ -102,7 +102,7 @@ impl Simulation {
         sink: &mut S,
     ) -> Result<(), SimulateFault>
         ensures goes_on { OnOk result (GoesOnForAnyKinds S.takes (DeedsMeet (Due.Wake task) now) sink.old self.old sink.new self.new) }
-        ensures ends { (w : Workload) → SimulationGoesWell w now self.old → IsNextDue w.machine.duration (accounts_of self.old.roster) (Due.Wake task) now → IfErr result WantsMemory }
+        ensures ends { (w : Workload) → IfNextDue w (Due.Wake task) now self.old (IfErr result WantsMemory) }
     {
         let progress = self.roster.progress(task)?;
         if progress.timer != now {
@@ -124,7 +124,7 @@ impl Simulation {
         sink: &mut S,
     ) -> Result<(), SimulateFault>
         requires { IsWoken (accounts_of self.old.roster) from task }
-        ensures events { OnOk result ((to : ℕ) × EventsAreDriven S.takes sink.old self.old.driver (BeginWake from task ∷ EndWake from now ∷ Drain to now ∷ []) sink.new self.new.driver) }
+        ensures events { OnOk result (WakeIsDriven S.takes sink.old self.old.driver from task now sink.new self.new.driver) }
         ensures goes_on { OnOk result (GoesOnForAnyKinds S.takes (AreWake from task now) sink.old self.old sink.new self.new) }
         ensures ends { (w : Workload) → SimulationGoesWell w now self.old → IfErr result WantsMemory }
     {
@@ -144,7 +144,7 @@ impl Simulation {
         sink: &mut S,
     ) -> Result<(), SimulateFault>
         ensures goes_on { OnOk result (GoesOnForAnyKinds S.takes (DeedsMeet (Due.Tick processor) now) sink.old self.old sink.new self.new) }
-        ensures ends { (w : Workload) → SimulationGoesWell w now self.old → IsNextDue w.machine.duration (accounts_of self.old.roster) (Due.Tick processor) now → IfErr result WantsMemory }
+        ensures ends { (w : Workload) → IfNextDue w (Due.Tick processor) now self.old (IfErr result WantsMemory) }
     {
         let processor_state = self.roster.processor_state(processor)?;
         let Some(_) = processor_state.run else {
@@ -179,7 +179,7 @@ impl Simulation {
         sink: &mut S,
     ) -> Result<(), SimulateFault>
         ensures goes_on { OnOk result (GoesOnForAnyKinds S.takes (DeedsMeet (Due.Look processor) now) sink.old self.old sink.new self.new) }
-        ensures ends { (w : Workload) → SimulationGoesWell w now self.old → IsNextDue w.machine.duration (accounts_of self.old.roster) (Due.Look processor) now → IfErr result WantsMemory }
+        ensures ends { (w : Workload) → IfNextDue w (Due.Look processor) now self.old (IfErr result WantsMemory) }
     {
         let source = self.roster.look(processor, now)?;
         match source {
@@ -228,7 +228,7 @@ fn keep_pull(
     moved: Moved,
     now: u64,
 ) -> Result<(), BrokenInvariant>
-    ensures accounts { OnOk result (accounts_of roster.new ≡ accounts_switched processor moved.run now roster.old.periods (accounts_pulled from processor moved.task (accounts_of roster.old))) }
+    ensures accounts { OnOk result (accounts_of roster.new ≡ accounts_after_pull roster.old.periods processor from moved.task moved.run now (accounts_of roster.old)) }
     ensures agrees { OnOk result (StaysAgreed roster.old roster.new) }
     ensures periods { roster.new.periods ≡ roster.old.periods }
     ensures stray { IfErr result (λ _. IsStrayPull roster.old.periods processor from moved.task moved.run now (accounts_of roster.old)) }

@@ -1,7 +1,6 @@
 //! The sink that writes the text of a trace.
-ghost use Rattle.std.specs.Prelude.{◌≡◌, ℕ, List, [], string_bytes};
-ghost use Rattle.std.specs.Borrow.{Bor};
-ghost use Rattle.std.specs.Option.{option_map};
+ghost use Rattle.std.specs.Prelude.{◌≡◌, [], string_bytes};
+ghost use Rattle.bq_trace.specs.Borrowed.{optional_bytes};
 ghost use Rattle.bq_simulate.specs.Texts.{WritesEvent, brought, image_at};
 
 use crate::images::Images;
@@ -34,7 +33,7 @@ impl<'a> TraceWriter<'a> {
 
     /// The image that an event brings.
     fn brought(&self, event: &Event) -> Option<&'a [u8]>
-        ensures { option_map (λ (b : Bor (List ℕ)). b.now) result ≡ brought (image_at self.now.images) event.now }
+        ensures { optional_bytes result ≡ brought (image_at self.now.images) event.now }
     {
         match event {
             Event::Install { hook, .. } => self.images.at(*hook),

@@ -7,8 +7,8 @@ ghost use Rattle.bq_workload.specs.Next.{IsAgreed, NothingComes};
 ghost use Rattle.bq_workload.specs.Soundness.{first_flaw};
 ghost use Rattle.bq_workload.specs.declared.workload.Workload.{Workload};
 ghost use Rattle.bq_simulate.specs.Faults.{reported_flaw};
-ghost use Rattle.bq_simulate.specs.GoingWell.{EndsEarly, SimulationGoesWell, HasGoneWell, HasProcessors, IfTooManySteps, IsCutOff, StartsWell, WantsMemory};
-ghost use Rattle.bq_simulate.specs.Simulations.{GoesOnForAnyKinds, RunsToEnd, RunsToLimit, HasEnough, HasProceeded, IsFollowed, IsSimulation, IsTooLong, ComesToBound, RunsToEndOrEnough, with_seed};
+ghost use Rattle.bq_simulate.specs.GoingWell.{EndsEarly, GetsIfTooLong, HasOpenedWell, SimulationGoesWell, HasGoneWell, HasProcessors, IfTooManySteps, IsCutOff, StartsWell, WantsMemory};
+ghost use Rattle.bq_simulate.specs.Simulations.{GoesOnForAnyKinds, RunsToEnd, RunsToLimit, HasEnough, HasProceeded, IsFollowed, IsSimulation, ComesToBound, RunsToEndOrEnough, with_seed};
 ghost use Rattle.bq_simulate.specs.Steps.{AreJustEvents, last_ticks};
 ghost use Rattle.bq_simulate.specs.declared.fault.SimulateFault.TheVariants as why;
 ghost use Rattle.bq_trace.specs.TraceEvents.{Gets};
@@ -47,7 +47,7 @@ pub fn simulate<S: Sink + Enough>(
     ensures flaw { IfErr result (λ fault. reported_flaw fault ≡ first_flaw workload.now) }
     ensures unreported { first_flaw workload.now ≢ None → sink.new ≡ sink.old }
     ensures ends { first_flaw workload.now ≡ None → IfErr result (IsCutOff workload.now) }
-    ensures too_many_steps { IfErr result (IfTooManySteps (Gets S.takes sink.old sink.new (IsTooLong policies.now workload.now))) }
+    ensures too_many_steps { IfErr result (GetsIfTooLong S.takes policies.now workload.now sink.old sink.new) }
 {
     simulate_seed(alloc, workload, workload.machine.seed, policies, sink)
 }
@@ -68,7 +68,7 @@ pub fn simulate_seed<S: Sink + Enough>(
     ensures flaw { IfErr result (λ fault. reported_flaw fault ≡ first_flaw workload.now) }
     ensures unreported { first_flaw workload.now ≢ None → sink.new ≡ sink.old }
     ensures ends { first_flaw workload.now ≡ None → IfErr result (IsCutOff workload.now) }
-    ensures too_many_steps { IfErr result (IfTooManySteps (Gets S.takes sink.old sink.new (IsTooLong policies.now (with_seed workload.now seed)))) }
+    ensures too_many_steps { IfErr result (GetsIfTooLong S.takes policies.now (with_seed workload.now seed) sink.old sink.new) }
 {
     soundness(workload).map_err(SimulateFault::Unsound)?;
     let counts = match follow(alloc, workload, seed, policies, sink) {
@@ -92,7 +92,7 @@ fn follow<S: Sink + Enough>(
     ensures reported { OnOk result (Gets S.takes sink.old sink.new (IsFollowed (S.has_enough sink.new) policies.now (with_seed workload.now seed))) }
     ensures tasks { IfOk result (λ counts. counts.tasks ≡ tasks_in workload.now.tasks.items) }
     ensures ends { first_flaw workload.now ≡ None → IfErr result (EndsEarly workload.now) }
-    ensures too_many_steps { first_flaw workload.now ≡ None → IfErr result (IfTooManySteps (Gets S.takes sink.old sink.new (IsTooLong policies.now (with_seed workload.now seed)))) }
+    ensures too_many_steps { first_flaw workload.now ≡ None → IfErr result (GetsIfTooLong S.takes policies.now (with_seed workload.now seed) sink.old sink.new) }
 {
     let machine = &workload.machine;
     let driver = Driver::new(alloc, machine.discipline, machine.size, sink)?;
@@ -174,9 +174,9 @@ impl Simulation {
     ) -> Result<(), SimulateFault>
         ensures nothing_due { OnOk result (S.has_enough sink.new ≡ false → IsAgreed self.new.roster → NothingComes self.new.roster.periods.end (accounts_of self.new.roster)) }
         ensures goes_on { OnOk result (RunsToEnd S.takes workload.now step_limit sink.old self.old sink.new self.new) }
-        ensures well { OnOk result (SimulationGoesWell workload.now 0 self.old → HasGoneWell workload.now self.new) }
-        ensures ends { SimulationGoesWell workload.now 0 self.old → HasProcessors workload.now self.old → step_limit ≡ most_steps workload.now → IfErr result (EndsEarly workload.now) }
-        ensures too_many_steps { SimulationGoesWell workload.now 0 self.old → IfErr result (IfTooManySteps (RunsToLimit S.takes workload.now step_limit sink.old self.old sink.new self.new)) }
+        ensures well { OnOk result (HasOpenedWell workload.now self.old → HasGoneWell workload.now self.new) }
+        ensures ends { HasOpenedWell workload.now self.old → HasProcessors workload.now self.old → step_limit ≡ most_steps workload.now → IfErr result (EndsEarly workload.now) }
+        ensures too_many_steps { HasOpenedWell workload.now self.old → IfErr result (IfTooManySteps (RunsToLimit S.takes workload.now step_limit sink.old self.old sink.new self.new)) }
     {
         let end = workload.machine.duration;
         let mut last: u64 = 0;

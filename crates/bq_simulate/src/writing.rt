@@ -2,7 +2,7 @@
 ghost use Rattle.std.specs.Prelude.{◌≡◌, ◌++◌, ◌∷◌, [], OnOk, string_bytes};
 ghost use Rattle.std.specs.Fmt.{decimal};
 ghost use Rattle.bq_simulate.specs.Spelling.{HasFittingNumbers, asking_line, image_word, install_line, machine_line, spaced_words};
-ghost use Rattle.bq_simulate.specs.Texts.{optional_image_bytes};
+ghost use Rattle.bq_trace.specs.Borrowed.{optional_bytes};
 
 use bq_hooks::Hook;
 use bq_lines::Keyword;
@@ -19,7 +19,7 @@ pub fn write_event(
     event: &Event,
     image: Option<&[u8]>,
 ) -> Result<(), AllocError>
-    ensures line { OnOk result (string_bytes text.new ≡ string_bytes text.old ++ (asking_line (optional_image_bytes image.entry) event.now ++ 10 ∷ [])) }
+    ensures line { OnOk result (string_bytes text.new ≡ string_bytes text.old ++ (asking_line (optional_bytes image.entry) event.now ++ 10 ∷ [])) }
     ensures numbers { HasFittingNumbers event.now }
 {
     let keyword = Keyword::of_event(event).word();
@@ -67,7 +67,7 @@ fn write_install(
     hook: Hook,
     image: Option<&[u8]>,
 ) -> Result<(), AllocError>
-    ensures { OnOk result (string_bytes text.new ≡ string_bytes text.old ++ (install_line processor generation hook (optional_image_bytes image.entry) ++ 10 ∷ [])) }
+    ensures { OnOk result (string_bytes text.new ≡ string_bytes text.old ++ (install_line processor generation hook (optional_bytes image.entry) ++ 10 ∷ [])) }
 {
     let keyword = Keyword::Install.word();
     let hook = hook.word();
@@ -77,7 +77,7 @@ fn write_install(
 
 /// Adds the word of an image, and a line feed.
 fn write_image(alloc: Global, text: &mut String, image: Option<&[u8]>) -> Result<(), AllocError>
-    ensures { OnOk result (string_bytes text.new ≡ string_bytes text.old ++ (image_word (optional_image_bytes image.entry) ++ 10 ∷ [])) }
+    ensures { OnOk result (string_bytes text.new ≡ string_bytes text.old ++ (image_word (optional_bytes image.entry) ++ 10 ∷ [])) }
 {
     match image {
         None => text.push_str("none\n"),

@@ -1,5 +1,5 @@
 -- What comes next by the accounts, and an event queue that agrees with them.
-use Rattle.std.specs.Prelude.{◌≡◌, ℕ, ◌<◌, ◌⊎◌, false, Bool, List, Option, None, Some, option_and_then, slice_get}
+use Rattle.std.specs.Prelude.{◌≡◌, ℕ, ◌<◌, ◌⊎◌, false, Bool, List, Option, None, Some, MatchOption, option_and_then, slice_get}
 use Rattle.std.specs.Option.{option_map_or}
 use Rattle.bq_workload.specs.declared.progress.TaskProgress.{TaskProgress}
 use Rattle.bq_workload.specs.declared.progress.TaskState.{TaskState}
@@ -40,6 +40,10 @@ pub record IsNextDue (end : ℕ) (a : Accounts) (due : Due) (time : ℕ) : Type 
 -- by the accounts nothing comes until the end
 abbrev pub NothingComes : ℕ → Accounts → Type 0
 NothingComes end a = (due : Due) → comes_at end a due ≡ None
+
+-- by the accounts this is what comes first until the end, and when; there is none only if nothing comes
+abbrev pub ComesFirst : ℕ → Accounts → Option (ℕ × Due) → Type 0
+ComesFirst end a first = MatchOption first (NothingComes end a) (λ d. IsNextDue end a d.1 d.0)
 
 -- an event queue says of this thing when it comes by the accounts; and a thing that comes may be due
 pub record AgreesAt (end : ℕ) (a : Accounts) (event_queue : List ℕ) (due : Due) : Type 0 where

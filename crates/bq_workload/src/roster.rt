@@ -3,7 +3,7 @@ ghost use Rattle.std.specs.Prelude.{◌≡◌, ◌<◌, ◌≤◌, ◌++◌, [],
 ghost use Rattle.bq_workload.specs.Accounts.{accounts_of, first_look, opening_accounts};
 ghost use Rattle.bq_workload.specs.Dues.{AreLooks, IsDropped, IsDue, IsPlanned, due_rank, until};
 ghost use Rattle.bq_workload.specs.Minima.{AreNever, IsFirstDue};
-ghost use Rattle.bq_workload.specs.Next.{IsAgreed, IsNextDue, NothingComes};
+ghost use Rattle.bq_workload.specs.Next.{ComesFirst, IsAgreed};
 
 use crate::broken_invariant::BrokenInvariant;
 use crate::clocks::first_look;
@@ -93,7 +93,7 @@ impl Roster {
     /// What comes due first, and when.
     pub fn first(&self) -> Option<(u64, Due)>
         ensures first { MatchOption result (AreNever self.now.event_queue) (λ d. IsFirstDue self.now.event_queue d.0 (due_rank d.1)) }
-        ensures next { IsAgreed self.now → MatchOption result (NothingComes self.now.periods.end (accounts_of self.now)) (λ d. IsNextDue self.now.periods.end (accounts_of self.now) d.1 d.0) }
+        ensures next { IsAgreed self.now → ComesFirst self.now.periods.end (accounts_of self.now) result }
     {
         match self.event_queue.first() {
             None => None,
