@@ -1,5 +1,5 @@
 -- When the abstract state shows an access to be good, and what a text tells of one that it does not.
-use Rattle.std.specs.Prelude.{◌≡◌, ◌≢◌, ℕ, ℤ, ◌+◌, ◌-◌, ◌%◌, ◌^◌, ◌<◌, ◌≤◌, ◌==◌, Bool, true, false, List, ◌++◌, Some, None, codes, if◌then◌else◌, slice_get, slice_index_or}
+use Rattle.std.specs.Prelude.{◌≡◌, ◌≢◌, ℕ, ℤ, ◌+◌, ◌-◌, ◌%◌, ◌^◌, ◌<◌, ◌≤◌, ◌==◌, Bool, true, false, List, ◌++◌, Option, Some, None, MatchOption, ◌⊎◌, codes, if◌then◌else◌, slice_get, slice_index_or}
 use Rattle.std.specs.Fmt.{decimal}
 use Rattle.bq_bpf.specs.declared.shape.MapShape.{MapShape}
 use Rattle.bq_bpf.specs.Steps.{address_of}
@@ -60,6 +60,11 @@ MayBeFollowed kind.Context = Unit {0}
 MayBeFollowed kind.Stack = Unit {0}
 MayBeFollowed (kind.Entry map) = Unit {0}
 MayBeFollowed _ = ⊥
+
+-- the pointer may be followed, and the range says at what offsets the access begins; there is no range only if the pointer may not
+-- be followed or none is so far on
+abbrev pub BeginsIn : MemoryAccess → AbstractValue → Option Range → Type 0
+BeginsIn a k range = MatchOption range ((MayBeFollowed k.kind → ⊥) ⊎ Wraps a.off k.offset) (λ at. MayBeFollowed k.kind × IsMoved a.off k.offset at)
 
 -- by what is known of its pointer the access is good: it stays in what the pointer points to, it does not write the context, and what it reads of the stack is set
 pub record IsAccessShown (p : PolicySource) (state : AbstractState) (a : MemoryAccess) (k : AbstractValue) : Type 0 where

@@ -1,6 +1,6 @@
 //! Decides whether what is known of its pointer shows an access to be good, and says in words why not.
-ghost use Rattle.std.specs.Prelude.{◌≡◌, ◌⊎◌, ◌↔◌, ◌<◌, ◌≤◌, ◌+◌, IfOk, IfNone, IsTrue, MatchBool, MatchOption, Some, false, true, string_bytes};
-ghost use Rattle.bq_needs.specs.Accesses.{AreBytesSet, MayBeFollowed, GoesBeyond, IsMoved, IsAccessShown, Lacks, ReachesLast, StaysBelow, DescribesBegin, TouchesUnset, Wraps, across_text, access_begin, lack_text, may_be_null, pointed_place_text, pointer_register_text};
+ghost use Rattle.std.specs.Prelude.{◌≡◌, ◌↔◌, ◌<◌, ◌≤◌, ◌+◌, IfOk, IfNone, IsTrue, MatchBool, MatchOption, Some, false, true, string_bytes};
+ghost use Rattle.bq_needs.specs.Accesses.{AreBytesSet, BeginsIn, MayBeFollowed, GoesBeyond, IsMoved, IsAccessShown, Lacks, ReachesLast, StaysBelow, DescribesBegin, TouchesUnset, Wraps, across_text, access_begin, lack_text, may_be_null, pointed_place_text, pointer_register_text};
 
 use crate::known::{kind_text, known_text, map_name};
 use crate::memory_access::MemoryAccess;
@@ -226,7 +226,7 @@ fn place_text(alloc: Global, shapes: &[MapShape], kind: ValueKind) -> Result<Str
 
 /// At what offsets the access begins, if its pointer may be followed and a range says it.
 fn begin_range(access: MemoryAccess, pointer: AbstractValue) -> Option<Range>
-    ensures { MatchOption result ((MayBeFollowed pointer.kind → ⊥) ⊎ Wraps access.off pointer.offset) (λ at. MayBeFollowed pointer.kind × IsMoved access.off pointer.offset at) }
+    ensures { BeginsIn access pointer result }
 {
     if is_followed(pointer.kind) {
         moved(pointer.offset, access.off)
