@@ -20,9 +20,9 @@ module _ {R D : Type 0} where
   abbrev pub with_record : R → Option D → List R × D → List R × D
   with_record entry kept journal = (journal.0 ++ entry ∷ [], kept_after journal.1 kept)
 
-  -- the journal has room for another record
-  abbrev pub HasRoom : List R × D → Type 0
-  HasRoom journal = length journal.0 + 1 < 2 ^ 64
+  -- the history has a free place, for another record
+  abbrev pub HasFreePlace : List R × D → Type 0
+  HasFreePlace journal = length journal.0 + 1 < 2 ^ 64
 
   -- the receipt is for this record, at the place after all records of the journal
   abbrev pub IsNextReceipt : R → List R × D → Receipt R → Type 0

@@ -1,7 +1,7 @@
 //! What all callers share besides the locks of the world's parts.
 ghost use Rattle.std.specs.Prelude.{◌≡◌, ◌≤◌};
 ghost use Rattle.std.specs.Sync.Mutex.{mutex_guard_value};
-ghost use Rattle.bq_history.specs.Journals.{HasRoom};
+ghost use Rattle.bq_history.specs.Journals.{HasFreePlace};
 ghost use Rattle.bq_disc.specs.declared.limits.TheConstants.{PROCESSORS};
 
 use bq_disc::RunQueue;
@@ -38,7 +38,7 @@ impl<Q: RunQueue + Drop, N: Naming + Counting> Recorder<Q, N> {
     /// Locks the journal. Waits for ever if there is no room for another record.
     #[inline(always)]
     pub fn lock_journal<R: Wait>(&self, rt: &R) -> LockedJournal<'_, N>
-        ensures { HasRoom (mutex_guard_value result) }
+        ensures { HasFreePlace (mutex_guard_value result) }
     {
         let guard = lock(rt, &self.journal);
         guard.need_room(rt);

@@ -1,7 +1,7 @@
 //! A seat while an event is under way.
 ghost use Rattle.std.specs.Prelude.{◌≡◌, ◌≤◌, [], true};
 ghost use Rattle.bq_history.specs.Callers.{receipts_of, with_receipt};
-ghost use Rattle.bq_history.specs.Journals.{kept_of, kept_after, with_record, HasRoom, IsNextReceipt};
+ghost use Rattle.bq_history.specs.Journals.{kept_of, kept_after, with_record, HasFreePlace, IsNextReceipt};
 ghost use Rattle.bq_history.specs.Items.{MayCommit, MayCommitCell, MayCommitCells, IsCellCommitted};
 ghost use Rattle.bq_shared.specs.Sums.{spent};
 ghost use Rattle.bq_shared.specs.Calls.{ahead, IsTallied};
@@ -53,7 +53,7 @@ impl<R: ReportsCalls, P, D, N: Naming + Counting> Working<R, P, D, N> {
     where
         R: Drop,
         D: Drop,
-        requires fits { HasRoom journal.old }
+        requires fits { HasFreePlace journal.old }
         requires ready { draft.room.now ≡ true }
         requires same { draft.logged ≡ draft.reported }
         requires reported { self.old.tally ≡ ahead R.calls (receipts_of self.old.caller) (R.calls draft.reported) }
@@ -78,7 +78,7 @@ impl<R: ReportsCalls, P, D, N: Naming + Counting> Working<R, P, D, N> {
     where
         R: Drop,
         D: Drop,
-        requires fits { HasRoom journal.old }
+        requires fits { HasFreePlace journal.old }
         requires ready { draft.room.now ≡ true }
         requires same { draft.logged ≡ draft.reported }
         requires reported { self.old.tally ≡ ahead R.calls (receipts_of self.old.caller) (R.calls draft.reported) }
@@ -104,7 +104,7 @@ impl<R: ReportsCalls, P, D, N: Naming + Counting> Working<R, P, D, N> {
     where
         R: Drop,
         D: Drop,
-        requires fits { HasRoom journal.old }
+        requires fits { HasFreePlace journal.old }
         requires ready { draft.room.now ≡ true }
         requires same { draft.logged ≡ draft.reported }
         requires reported { self.old.tally ≡ ahead R.calls (receipts_of self.old.caller) (R.calls draft.reported) }
