@@ -5,4 +5,3 @@ mod RunLemmas
 mod RangeLemmas
 mod RowLemmas
 mod PairLemmas
-mod RatioLemmas

@@ -1,5 +1,5 @@
 -- The last of some runs begins with what those before it left, and with the context, time and processor of the first.
-use Rattle.std.proofs.Common.{◌≡◌, ℕ, Bool, false, List, [], length, Option, Some, IfSome, sym, subst, refl, String, string_bytes}
+use Rattle.std.proofs.Common.{◌≡◌, ℕ, Bool, false, List, [], length, sym, refl, String, string_bytes}
 use Rattle.bq_maps.specs.Arrays.{Arrays}
 use Rattle.bq_policy_run.specs.Changes.{changes_text, with_all}
 use Rattle.std.specs.declared.alloc.Global.{Global}
@@ -14,10 +14,6 @@ use Rattle.bq_policy_run.specs.Runs.{AreRuns, IsRun, PersistentState, kept_in}
 use Rattle.bq_policy_check.specs.declared.answered.Answered.TheVariants.{Done}
 use Rattle.bq_policy_run.specs.Running.{HasRun, ReportsRun, changed_text}
 use Rattle.bq_policy_run.specs.Tracing.{ReportsSteps}
-
--- what holds of a value that is there
-pub when_some : {A : Type 0} (P : A → Type 0) (o : Option A) (x : A) → IfSome o P → o ≡ Some x → P x
-when_some {A} P o x h e = subst (λ (p : Option A). IfSome p P) e h
 
 -- where runs leave the shapes of maps as they are, what changed may be said of the maps before or of those after
 pub changes_same : (first now : Arrays) (bytes : List (List ℕ))

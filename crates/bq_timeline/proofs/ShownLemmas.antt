@@ -24,11 +24,6 @@ stays_asked s named old new asked stays = (
   },
 )
 
--- two facts that hold on success hold together on success
-pub both : {T E : Type 0} (A B : Type 0) (r : Result T E) → OnOk r A → OnOk r B → OnOk r (A × B)
-both A B (Ok x) a b = (a, b)
-both A B (Err e) a b = tt
-
 -- lines that are there stand under the head of the table of bounds
 pub under_head : (lines : List ℕ) → (lines ≡ [] → ⊥) → under_bounds_head lines ≡ bounds_head ++ lines
 under_head [] there = absurd (there refl)

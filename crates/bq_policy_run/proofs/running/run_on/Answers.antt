@@ -1,20 +1,21 @@
 use Rattle.std.proofs.Common.{◌≡◌, ◌∙◌, ◌++◌, ℕ, Global, ap, length, map, string_bytes, List, subst}
 use Rattle.std.specs.Prelude.{is_some}
+use Rattle.std.proofs.lemmas.Option.{MatchOption-at_some}
 use Rattle.std.specs.declared.vec.Vec.{Vec}
 use Rattle.bq_interp.specs.declared.traced.Snapshot.{Snapshot}
 use Rattle.bq_policy_run.specs.Changes.{calls_text}
 use Rattle.bq_policy_run.specs.Runs.{kept_in}
 use Rattle.bq_policy_run.specs.Running.{ReportsRun, changed_text}
 use Rattle.bq_policy_run.specs.Tracing.{ReportsSteps}
-use Rattle.bq_policy_run.proofs.RunLemmas.{changes_same, has_run, when_some}
+use Rattle.bq_policy_run.proofs.RunLemmas.{changes_same, has_run}
 use Rattle.bq_policy_run.proofs.running.run_on.Goals as goal
 
 pub returns : goal.returns
 returns c =
-    let runs = when_some _ _ _ c.run_often-others.ensures.runs c.in-Some-Some.is-0 in
-    let run = when_some _ _ _ c.in_ok-last.ensures.run c.in-Some-Some.is-1 in
-    let snapshots = when_some _ _ _ c.in_ok-last.ensures.snapshots c.in-Some-Some.is-1 in
-    let each = when_some _ _ _ c.in_ok-last.ensures.each c.in-Some-Some.is-1 in
+    let runs = MatchOption-at_some _ _ _ c.in-Some-Some.is-0 c.run_often-others.ensures.runs in
+    let run = MatchOption-at_some _ _ _ c.in-Some-Some.is-1 c.in_ok-last.ensures.run in
+    let snapshots = MatchOption-at_some _ _ _ c.in-Some-Some.is-1 c.in_ok-last.ensures.snapshots in
+    let each = MatchOption-at_some _ _ _ c.in-Some-Some.is-1 c.in_ok-last.ensures.each in
     let executed : ReportsSteps c.args.words.now.report.is_traced c.args.verified.now c.trace_once.new.snapshots.items
     (string_bytes c.in_ok-executed.executed) =
     subst (λ (ms : List Snapshot).
@@ -47,5 +48,5 @@ returns c =
 
 pub reported-requires : goal.reported-requires
 reported-requires c =
-    let whole = when_some _ _ _ c.in_ok-last.ensures.whole c.in-Some-Some.is-1 in
+    let whole = MatchOption-at_some _ _ _ c.in-Some-Some.is-1 c.in_ok-last.ensures.whole in
     ap (λ (context : Vec ℕ Global). length context.items) c.in_ok-last.ensures.context ∙ whole

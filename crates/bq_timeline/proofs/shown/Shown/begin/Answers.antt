@@ -1,8 +1,8 @@
 -- A trace for Perfetto begins with its head, and with nothing in its history.
-use Rattle.bq_timeline.proofs.ShownLemmas.{both}
+use Rattle.std.proofs.ResultArms.{if_ok_both}
 use Rattle.bq_timeline.proofs.shown.Shown.begin.Goals as goal
 
 pub returns-in-Perfetto-clause-opens : goal.returns-in-Perfetto-clause-opens
 returns-in-Perfetto-clause-opens c =
     rw c.in-Perfetto.is
-    (both _ _ c.begin-in-Perfetto.result c.begin-in-Perfetto.ensures.history c.begin-in-Perfetto.ensures.head)
+    (if_ok_both c.begin-in-Perfetto.result _ _ c.begin-in-Perfetto.ensures.history c.begin-in-Perfetto.ensures.head)
