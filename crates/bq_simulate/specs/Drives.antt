@@ -96,6 +96,15 @@ abbrev pub placed_at : Reply → Option ℕ
 placed_at (Placed task to by steps) = Some to
 placed_at reply = None
 
+-- a sink gets what comes of an event, whose answer says that this task runs at its processor now, or none
+abbrev pub RunIsDriven : {S : Type 0} → SinkTakes S → S → Driver → Event → Option ℕ → S → Driver → Type 0
+RunIsDriven takes old d event run new e = (reply : Reply) × (runs_now reply ≡ run) × EventIsDriven takes old d event reply new e
+
+-- a sink gets what comes of the end of a wake, whose answer says that the task was placed on this processor
+abbrev pub PlaceIsDriven : {S : Type 0} → SinkTakes S → S → Driver → ℕ → ℕ → ℕ → S → Driver → Type 0
+PlaceIsDriven takes old d processor now to new e =
+    (reply : Reply) × (placed_at reply ≡ Some to) × EventIsDriven takes old d (EndWake processor now) reply new e
+
 -- a sink gets what comes of a drain, whose answer says that this many tasks entered the queue and that this one runs there now, or none
 abbrev pub DrainIsDriven : {S : Type 0} → SinkTakes S → S → Driver → ℕ → ℕ → ℕ → Option ℕ → S → Driver → Type 0
 DrainIsDriven takes old d processor now count run new e =

@@ -3,6 +3,7 @@ use Rattle.std.specs.Prelude.{◌≡◌, ◌⊎◌, ℕ, ◌++◌, ◌+◌, ◌-
 use Rattle.rand_pcg.specs.Lcg.{Lcg}
 use Rattle.bq_workload.specs.declared.action.Length.{Length}
 use Rattle.bq_workload.specs.declared.periods.Periods.{Periods}
+use Rattle.bq_workload.specs.declared.roster.Roster.{Roster}
 use Rattle.bq_workload.specs.declared.setup.Setup.{Setup}
 use Rattle.bq_workload.specs.declared.workload.TaskKind.{TaskKind}
 use Rattle.bq_workload.specs.declared.workload.Workload.{Workload}
@@ -203,13 +204,17 @@ JoinsNext kind home start s t =
     (kinds : List TaskKind) → IsTaskOfKind kinds (length s.roster.by_task.items) kind → start ≡ kind_start kinds kind →
     length s.streams.items ≡ length s.roster.by_task.items → GoesOnUnreported kinds (IsJoin kind home) s t
 
+-- if the event queue of a roster agrees with its accounts, nothing comes until the end
+abbrev pub NothingIsDue : Roster → Type 0
+NothingIsDue r = IsAgreed r → NothingComes r.periods.end (accounts_of r)
+
 -- a simulation goes on until no timer, no end of a phase, no tick and no look is left, and then each processor ticks at the end
 pub record RunsToLastTicks {S : Type 0} (takes : SinkTakes S) (policies : List Accepted) (kinds : List TaskKind) (most end processors : ℕ)
     (old : S) (s : Simulation) (new : S) (t : Simulation) : Type 0 where
   pub sink : S
   pub ended : Simulation
   pub proceeds : GoesOnFromBook takes kinds (Proceeds policies processors kinds s.seed s.roster.periods most end) old s sink ended
-  pub nothing_due : IsAgreed ended.roster → NothingComes ended.roster.periods.end (accounts_of ended.roster)
+  pub nothing_due : NothingIsDue ended.roster
   pub over : is_over end (accounts_of ended.roster) ≡ true
   pub ticks : GoesOnBy takes kinds (AreJustEvents (last_ticks end processors)) sink ended new t
 

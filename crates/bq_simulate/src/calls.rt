@@ -1,9 +1,9 @@
 //! A call for each kind of event, which returns what the answer says.
-ghost use Rattle.std.specs.Prelude.{◌≡◌, ◌∷◌, [], IfErr, IfOk, OnOk, Some};
+ghost use Rattle.std.specs.Prelude.{◌∷◌, [], IfErr, IfOk, OnOk, Some};
 ghost use Rattle.bq_parts.specs.declared.event.Event.TheVariants.{Admit, Draw, Install, EndWake, Drain, Tick, Block, Pull};
 ghost use Rattle.bq_parts.specs.declared.reply.Reply.{Reply};
 ghost use Rattle.bq_parts.specs.declared.reply.Reply.TheVariants.{Drawn};
-ghost use Rattle.bq_simulate.specs.Drives.{EventIsDriven, EventsAreDriven, IsDriveFault, IsWakeFault, PlacesWoken, PullIsDriven, DrainIsDriven, placed_at, runs_now};
+ghost use Rattle.bq_simulate.specs.Drives.{EventIsDriven, EventsAreDriven, IsDriveFault, IsWakeFault, PlaceIsDriven, PlacesWoken, PullIsDriven, DrainIsDriven, RunIsDriven};
 ghost use Rattle.bq_trace.specs.TraceEvents.{Gets};
 
 use crate::drive_fault::DriveFault;
@@ -80,7 +80,7 @@ impl Driver {
         now: u64,
         sink: &mut S,
     ) -> Result<u8, DriveFault>
-        ensures does { IfOk result (λ to. (reply : Reply) × (placed_at reply ≡ Some to) × EventIsDriven S.takes sink.old self.old (EndWake processor now) reply sink.new self.new) }
+        ensures does { IfOk result (λ to. PlaceIsDriven S.takes sink.old self.old processor now to sink.new self.new) }
         ensures fault { IfErr result (λ fault. IsDriveFault self.old (EndWake processor now) fault) }
     {
         match self.perform(alloc, Event::EndWake { processor, now }, sink)? {
@@ -114,7 +114,7 @@ impl Driver {
         now: u64,
         sink: &mut S,
     ) -> Result<Option<u16>, DriveFault>
-        ensures does { IfOk result (λ run. (reply : Reply) × (runs_now reply ≡ run) × EventIsDriven S.takes sink.old self.old (Tick processor now) reply sink.new self.new) }
+        ensures does { IfOk result (λ run. RunIsDriven S.takes sink.old self.old (Tick processor now) run sink.new self.new) }
         ensures fault { IfErr result (λ fault. IsDriveFault self.old (Tick processor now) fault) }
     {
         match self.perform(alloc, Event::Tick { processor, now }, sink)? {
@@ -131,7 +131,7 @@ impl Driver {
         now: u64,
         sink: &mut S,
     ) -> Result<Option<u16>, DriveFault>
-        ensures does { IfOk result (λ run. (reply : Reply) × (runs_now reply ≡ run) × EventIsDriven S.takes sink.old self.old (Block processor now) reply sink.new self.new) }
+        ensures does { IfOk result (λ run. RunIsDriven S.takes sink.old self.old (Block processor now) run sink.new self.new) }
         ensures fault { IfErr result (λ fault. IsDriveFault self.old (Block processor now) fault) }
     {
         match self.perform(alloc, Event::Block { processor, now }, sink)? {

@@ -1,14 +1,12 @@
 //! A simulation from its beginning to its end.
 ghost use Rattle.std.specs.Prelude.{◌≡◌, ◌≢◌, ◌≤◌, None, false, true, OnOk, IfOk, IfErr, length};
-ghost use Rattle.bq_workload.specs.Accounts.{accounts_of};
 ghost use Rattle.bq_workload.specs.Bounds.{most_steps};
 ghost use Rattle.bq_workload.specs.Kinds.{tasks_in};
-ghost use Rattle.bq_workload.specs.Next.{IsAgreed, NothingComes};
 ghost use Rattle.bq_workload.specs.Soundness.{first_flaw};
 ghost use Rattle.bq_workload.specs.declared.workload.Workload.{Workload};
 ghost use Rattle.bq_simulate.specs.Faults.{reported_flaw};
 ghost use Rattle.bq_simulate.specs.GoingWell.{EndsEarly, GetsIfTooLong, HasOpenedWell, SimulationGoesWell, HasGoneWell, HasProcessors, IfTooManySteps, IsCutOff, StartsWell, WantsMemory};
-ghost use Rattle.bq_simulate.specs.Simulations.{GoesOnForAnyKinds, RunsToEnd, RunsToLimit, HasEnough, HasProceeded, IsFollowed, IsSimulation, ComesToBound, RunsToEndOrEnough, with_seed};
+ghost use Rattle.bq_simulate.specs.Simulations.{GoesOnForAnyKinds, RunsToEnd, RunsToLimit, HasEnough, HasProceeded, IsFollowed, IsSimulation, NothingIsDue, ComesToBound, RunsToEndOrEnough, with_seed};
 ghost use Rattle.bq_simulate.specs.Steps.{AreJustEvents, last_ticks};
 ghost use Rattle.bq_simulate.specs.declared.fault.SimulateFault.TheVariants as why;
 ghost use Rattle.bq_trace.specs.TraceEvents.{Gets};
@@ -139,7 +137,7 @@ impl Simulation {
         requires tasks { length self.old.roster.by_task.items ≡ 0 }
         requires streams { length self.old.streams.items ≡ 0 }
         ensures tasks { IfOk result (λ tasks. tasks ≡ tasks_in workload.now.tasks.items) }
-        ensures nothing_due { OnOk result (S.has_enough sink.new ≡ false → IsAgreed self.new.roster → NothingComes self.new.roster.periods.end (accounts_of self.new.roster)) }
+        ensures nothing_due { OnOk result (S.has_enough sink.new ≡ false → NothingIsDue self.new.roster) }
         ensures goes_on { OnOk result (HasProceeded S.takes policies.now workload.now sink.old self.old sink.new self.new) }
         ensures well { OnOk result (StartsWell workload.now self.old → HasGoneWell workload.now self.new) }
         ensures ends { StartsWell workload.now self.old → IfErr result (EndsEarly workload.now) }
@@ -172,7 +170,7 @@ impl Simulation {
         step_limit: u64,
         sink: &mut S,
     ) -> Result<(), SimulateFault>
-        ensures nothing_due { OnOk result (S.has_enough sink.new ≡ false → IsAgreed self.new.roster → NothingComes self.new.roster.periods.end (accounts_of self.new.roster)) }
+        ensures nothing_due { OnOk result (S.has_enough sink.new ≡ false → NothingIsDue self.new.roster) }
         ensures goes_on { OnOk result (RunsToEnd S.takes workload.now step_limit sink.old self.old sink.new self.new) }
         ensures well { OnOk result (HasOpenedWell workload.now self.old → HasGoneWell workload.now self.new) }
         ensures ends { HasOpenedWell workload.now self.old → HasProcessors workload.now self.old → step_limit ≡ most_steps workload.now → IfErr result (EndsEarly workload.now) }
