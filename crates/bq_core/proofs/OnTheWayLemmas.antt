@@ -15,7 +15,7 @@ use Rattle.bq_parts.specs.World.{World, processor_at, inbox, entry_of_id, count_
 use Rattle.bq_parts.specs.Refusals.{is_away}
 use Rattle.bq_hooks.specs.Contexts.{as_number}
 use Rattle.bq_hooks.specs.OwnPlace.{HasPlace}
-use Rattle.bq_parts.specs.StandsOnce.{held_count, placed_count, standing_count, runnable_at, IsOrderly}
+use Rattle.bq_parts.specs.Orderly.{held_count, placed_count, standing_count, runnable_at, IsOrderly}
 use Rattle.bq_core.proofs.EachProcessorLemmas.{AllWell, at_set, at_set_else}
 use Rattle.bq_core.proofs.SuitableTaskLemmas.{unsuited, Suits, none_unsuited, all_suit}
 use Rattle.bq_parts.proofs.TallyLemmas.{tally, tally-append}

@@ -26,7 +26,7 @@ use Rattle.bq_parts.specs.Choices.{PolicySemantics, SettledChoice, by_programs, 
 use Rattle.bq_parts.specs.Moves.{admitted}
 use Rattle.bq_parts.specs.Shares.{after_time, mark_updated}
 use Rattle.bq_parts.specs.Steps.{WorldStep, Performs}
-use Rattle.bq_parts.specs.StandsOnce.{IsOrderly}
+use Rattle.bq_parts.specs.Orderly.{IsOrderly}
 use Rattle.bq_core.specs.Laws.{OpeningIsOrderly, StepKeeps, RunKeeps, StepKeepsOrder, StepKeepsOrderAnyhow, RunKeepsOrder, HistoryIsOrderly}
 use Rattle.bq_parts.proofs.RefusalLemmas.{accepted, first_refusal_passed, not_refused_is_there}
 use Rattle.bq_parts.proofs.CountLemmas.{each_once_queue}

@@ -11,7 +11,7 @@ use Rattle.bq_parts.specs.declared.refusal.Refusal.TheVariants as no
 use Rattle.bq_parts.specs.World.{World, opening_world}
 use Rattle.bq_parts.specs.Choices.{PolicySemantics, by_programs, under_any_answers}
 use Rattle.bq_parts.specs.Steps.{WorldStep, WorldRun}
-use Rattle.bq_parts.specs.StandsOnce.{IsOrderly}
+use Rattle.bq_parts.specs.Orderly.{IsOrderly}
 
 -- a world in which nothing has happened is in order
 abbrev pub OpeningIsOrderly : Type 0

@@ -5,7 +5,7 @@ ghost use Rattle.bq_parts.specs.Choices.{by_programs};
 ghost use Rattle.bq_parts.specs.Steps.{WorldStep, RunsOn};
 ghost use Rattle.bq_bpf.specs.Counters.{Through};
 ghost use Rattle.bq_bpf.specs.declared.board.CounterCall.{CounterCall};
-ghost use Rattle.bq_parts.specs.StandsOnce.{IsOrderly};
+ghost use Rattle.bq_parts.specs.Orderly.{IsOrderly};
 ghost use Rattle.bq_parts.specs.declared.refusal.Refusal.TheVariants as no;
 ghost use Rattle.bq_core.specs.Laws.{StaysOrderly};
 
@@ -28,7 +28,7 @@ pub struct DynamicCore<Q: RunQueue> {
 
 impl<Q: RunQueue> Model for DynamicCore<Q> {
     ghost use Rattle.bq_parts.specs.World.{World};
-    ghost use Rattle.bq_parts.specs.StandsOnce.{IsOrderly};
+    ghost use Rattle.bq_parts.specs.Orderly.{IsOrderly};
 
     ghost Value = { World };
 

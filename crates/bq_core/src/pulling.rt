@@ -2,12 +2,12 @@
 ghost use Rattle.std.specs.Prelude.{◌≡◌, ◌≢◌, ◌≤◌, ◌<◌, ◌++◌, [], length, slice_index_or};
 ghost use Rattle.bq_disc.specs.OneProcessor.{present_at};
 ghost use Rattle.bq_bpf.specs.Counters.{Through};
-ghost use Rattle.bq_parts.specs.Processors.{new_processor, HasEachOnce, HasLobbyIds};
+ghost use Rattle.bq_parts.specs.Processors.{new_processor, HasEachOnce, HasIdsBelowTasks};
 ghost use Rattle.bq_parts.specs.World.{count_in};
 ghost use Rattle.bq_parts.specs.Choices.{by_programs};
 ghost use Rattle.bq_parts.specs.Shares.{PullsBetween};
 ghost use Rattle.bq_parts.specs.Steps.{WorldStep};
-ghost use Rattle.bq_parts.specs.StandsOnce.{IsOrderly};
+ghost use Rattle.bq_parts.specs.Orderly.{IsOrderly};
 
 use crate::world_parts::WorldParts;
 use bq_bpf::Board;
@@ -32,7 +32,7 @@ impl<Q: RunQueue> WorldParts<Q> {
         requires inside { processor < count_in self.old }
         requires inside_from { from < count_in self.old }
         requires apart { processor ≢ from }
-        requires unasked { scratch.old ≡ [] }
+        requires no_calls { scratch.old ≡ [] }
         ensures step { WorldStep (by_programs Q.R.discipline) self.old (Event.Pull processor from now) scratch.new result self.new }
         ensures board { Through B.leads board.old scratch.new board.new }
     {
@@ -55,8 +55,8 @@ fn pull_between<Q: RunQueue, B: Board>(
     requires inside_from { from < length cpus.old }
     requires apart { processor ≢ from }
     requires once { HasEachOnce (present_at (slice_index_or cpus.old processor new_processor).running ++ present_at (slice_index_or cpus.old from new_processor).running) }
-    requires ids { HasLobbyIds (present_at (slice_index_or cpus.old processor new_processor).running ++ present_at (slice_index_or cpus.old from new_processor).running) }
-    requires unasked { scratch.old ≡ [] }
+    requires ids { HasIdsBelowTasks (present_at (slice_index_or cpus.old processor new_processor).running ++ present_at (slice_index_or cpus.old from new_processor).running) }
+    requires no_calls { scratch.old ≡ [] }
     ensures share { PullsBetween (by_programs Q.R.discipline) processor from now cpus.old scratch.new result cpus.new }
     ensures board { Through B.leads board.old scratch.new board.new }
 {

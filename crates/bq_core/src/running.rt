@@ -4,7 +4,7 @@ ghost use Rattle.bq_parts.specs.World.{count_in};
 ghost use Rattle.bq_bpf.specs.Counters.{Through};
 ghost use Rattle.bq_parts.specs.Choices.{by_programs};
 ghost use Rattle.bq_parts.specs.Steps.{WorldStep};
-ghost use Rattle.bq_parts.specs.StandsOnce.{IsOrderly};
+ghost use Rattle.bq_parts.specs.Orderly.{IsOrderly};
 
 use crate::world_parts::WorldParts;
 use bq_bpf::Board;
@@ -23,7 +23,7 @@ impl<Q: RunQueue> WorldParts<Q> {
     ) -> Result<Reply, Refusal>
         requires orderly { IsOrderly self.old }
         requires inside { processor < count_in self.old }
-        requires unasked { scratch.old ≡ [] }
+        requires no_calls { scratch.old ≡ [] }
         ensures step { WorldStep (by_programs Q.R.discipline) self.old (Event.Tick processor now) scratch.new result self.new }
         ensures board { Through B.leads board.old scratch.new board.new }
     {
@@ -41,7 +41,7 @@ impl<Q: RunQueue> WorldParts<Q> {
     ) -> Result<Reply, Refusal>
         requires orderly { IsOrderly self.old }
         requires inside { processor < count_in self.old }
-        requires unasked { scratch.old ≡ [] }
+        requires no_calls { scratch.old ≡ [] }
         ensures step { WorldStep (by_programs Q.R.discipline) self.old (Event.Drain processor now) scratch.new result self.new }
         ensures board { Through B.leads board.old scratch.new board.new }
     {

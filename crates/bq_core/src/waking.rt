@@ -5,7 +5,7 @@ ghost use Rattle.bq_parts.specs.World.{count_in, loads_of};
 ghost use Rattle.bq_bpf.specs.Counters.{Through};
 ghost use Rattle.bq_parts.specs.Choices.{by_programs};
 ghost use Rattle.bq_parts.specs.Steps.{WorldStep};
-ghost use Rattle.bq_parts.specs.StandsOnce.{IsOrderly};
+ghost use Rattle.bq_parts.specs.Orderly.{IsOrderly};
 
 use crate::world_parts::WorldParts;
 use bq_bpf::Board;
@@ -26,7 +26,7 @@ impl<Q: RunQueue> WorldParts<Q> {
     {
         let loads = loads_of(self.cpus.as_slice(), self.inboxes.as_slice());
         let cpu = &mut self.cpus[usize::from(processor)];
-        cpu.begin_with(&mut self.lobby, task, loads)
+        cpu.begin_wake_with_loads(&mut self.lobby, task, loads)
     }
 
     /// Places the task in a processor's hand: the task goes to the end of the chosen processor's inbox.
@@ -40,7 +40,7 @@ impl<Q: RunQueue> WorldParts<Q> {
     ) -> Result<Reply, Refusal>
         requires orderly { IsOrderly self.old }
         requires inside { processor < count_in self.old }
-        requires unasked { scratch.old ≡ [] }
+        requires no_calls { scratch.old ≡ [] }
         ensures step { WorldStep (by_programs Q.R.discipline) self.old (Event.EndWake processor now) scratch.new result self.new }
         ensures board { Through B.leads board.old scratch.new board.new }
     {

@@ -2,7 +2,7 @@
 ghost use Rattle.std.specs.Prelude.{◌≡◌, ◌≤◌, ◌<◌, IfOk, length};
 ghost use Rattle.bq_bpf.specs.Counters.{Through};
 ghost use Rattle.bq_parts.specs.Choices.{by_programs};
-ghost use Rattle.bq_parts.specs.StandsOnce.{IsOrderly};
+ghost use Rattle.bq_parts.specs.Orderly.{IsOrderly};
 ghost use Rattle.bq_parts.specs.Steps.{WorldStep};
 ghost use Rattle.bq_parts.specs.World.{opening_world, processor_at, count_in};
 

@@ -23,7 +23,7 @@ use Rattle.bq_parts.specs.declared.lobby_entry.LobbyEntry.{LobbyEntry}
 use Rattle.bq_parts.specs.Refusals.{refusal}
 use Rattle.bq_parts.specs.World.{World, processor_at, inbox, count_in, with_processor}
 use Rattle.bq_parts.specs.Moves.{taken_from, without_task, with_pulled, started_if_idle}
-use Rattle.bq_parts.specs.StandsOnce.{IsOrderly}
+use Rattle.bq_parts.specs.Orderly.{IsOrderly}
 use Rattle.bq_parts.specs.Choices.{by_programs, SettledChoice, own_pull}
 use Rattle.bq_parts.specs.Shares.{Ticks, Drains, Blocks, Pulls, after_time, mark_updated}
 use Rattle.bq_parts.proofs.CountLemmas.{each_once_queue, HasDistinctIds-from_counts}

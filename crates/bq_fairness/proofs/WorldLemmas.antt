@@ -24,7 +24,7 @@ use Rattle.bq_parts.specs.declared.reply.Reply.{Reply}
 use Rattle.bq_parts.specs.declared.refusal.Refusal.{Refusal}
 use Rattle.bq_parts.specs.Processors.{new_processor}
 use Rattle.bq_parts.specs.World.{World, opening_world, count_in}
-use Rattle.bq_parts.specs.StandsOnce.{IsOrderly}
+use Rattle.bq_parts.specs.Orderly.{IsOrderly}
 use Rattle.bq_parts.specs.Choices.{by_programs}
 use Rattle.bq_parts.specs.Steps.{WorldStep, WorldRun}
 use Rattle.bq_core.proofs.OrderLemmas.{opening_is_orderly, step_tidy, step_keeps}

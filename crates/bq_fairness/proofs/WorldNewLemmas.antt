@@ -17,7 +17,7 @@ use Rattle.bq_parts.specs.declared.refusal.Refusal.{Refusal}
 use Rattle.bq_parts.specs.Processors.{count_of_id, HasEachOnce}
 use Rattle.bq_parts.specs.Moves.{taken_from}
 use Rattle.bq_parts.specs.World.{World, inbox}
-use Rattle.bq_parts.specs.StandsOnce.{IsOrderly}
+use Rattle.bq_parts.specs.Orderly.{IsOrderly}
 use Rattle.bq_parts.specs.Choices.{by_programs, SettledChoice}
 use Rattle.bq_parts.specs.Steps.{WorldStep}
 use Rattle.bq_parts.proofs.CountLemmas.{one, one_self, count_of-append, count_of-inserted, count_of-without, queue_le_present, find_task-absent, keeps_charge}

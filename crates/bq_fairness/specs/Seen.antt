@@ -14,7 +14,7 @@ use Rattle.bq_parts.specs.declared.reply.Reply.TheVariants.{Drained, Ticked, Blo
 use Rattle.bq_parts.specs.declared.refusal.Refusal.{Refusal}
 use Rattle.bq_parts.specs.Moves.{taken_from}
 use Rattle.bq_parts.specs.World.{World, processor_at, inbox, count_in}
-use Rattle.bq_parts.specs.StandsOnce.{IsOrderly}
+use Rattle.bq_parts.specs.Orderly.{IsOrderly}
 use Rattle.bq_parts.specs.Choices.{by_programs}
 use Rattle.bq_parts.specs.Steps.{WorldStep}
 

@@ -9,7 +9,7 @@ use Rattle.bq_hooks.specs.OwnPlace.{HasPlace}
 use Rattle.bq_hooks.specs.Permitted.{may_place}
 use Rattle.bq_hooks.proofs.PermittedLemmas.{own_place_permitted}
 use Rattle.bq_parts.specs.declared.carried.Carried.{Carried}
-use Rattle.bq_parts.specs.Processors.{Processor, count_of_id, HasLobbyIds}
+use Rattle.bq_parts.specs.Processors.{Processor, count_of_id, HasIdsBelowTasks}
 use Rattle.bq_parts.specs.Choices.{SettledChoice, SettlesPlace, by_programs}
 use Rattle.bq_parts.proofs.CountLemmas.{one, one_self, keeps_charge}
 use Rattle.bq_parts.proofs.PermittedLemmas.{settled_permitted, may_place_fits}
@@ -25,7 +25,7 @@ below_by_case t m n h e = elim (cases_lt t.id 1024) [ inl l ↦ l | inr g ↦ ab
 
 -- the task that runs has an entry, if all have
 pub current_id : (d : Discipline) (p : Running) (now : ℕ) (t : Task)
-    → HasLobbyIds (present_at p) → Some t ≡ (charge d p now).current → t.id < 1024
+    → HasIdsBelowTasks (present_at p) → Some t ≡ (charge d p now).current → t.id < 1024
 current_id d p now t s e =
     let q = charge d p now in
     let here : count_of_id t.id (present_at q) ≡ one t.id t + count_of_id t.id q.queue =

@@ -10,11 +10,11 @@ use Rattle.bq_disc.specs.OneProcessor.{present_at}
 use Rattle.bq_disc.specs.Movable.{ids}
 use Rattle.bq_disc.proofs.QueueLemmas.{length-ids}
 use Rattle.bq_parts.specs.declared.lobby_entry.LobbyEntry.TheVariants.{Absent}
-use Rattle.bq_parts.specs.Processors.{Processor, new_processor, count_of_id, held_by, in_hand, HasEachOnce, HasLobbyIds}
+use Rattle.bq_parts.specs.Processors.{Processor, new_processor, count_of_id, held_by, in_hand, HasEachOnce, HasIdsBelowTasks}
 use Rattle.bq_parts.specs.World.{World, processor_at, inbox, entry_of_id}
 use Rattle.bq_parts.specs.Refusals.{is_away}
 use Rattle.bq_hooks.specs.Contexts.{as_number}
-use Rattle.bq_parts.specs.StandsOnce.{held_count, placed_count, standing_count, IsOrderly}
+use Rattle.bq_parts.specs.Orderly.{held_count, placed_count, standing_count, IsOrderly}
 use Rattle.bq_parts.proofs.CountLemmas.{one, one_self, count_of-append, HasEachOnce-left}
 
 -- a processor's tasks are among those of all
@@ -100,7 +100,7 @@ none_beyond_at w processor id l o h =
 
 -- the tasks that run or wait at a processor have ids of the lobby
 pub ids_running : (w : World) (processor : ℕ) → length w.lobby ≡ 1024 → IsOrderly w
-    → HasLobbyIds (present_at (processor_at w processor).running)
+    → HasIdsBelowTasks (present_at (processor_at w processor).running)
 ids_running w processor l o = λ id h. omega (
   arith,
   none_beyond_at w processor id l o h,
@@ -128,7 +128,7 @@ each_once_two w processor from n o = λ id.
 
 -- two processors have no task with an id beyond the lobby
 pub ids_two : (w : World) (processor from : ℕ) → length w.lobby ≡ 1024 → IsOrderly w
-    → HasLobbyIds (present_at (processor_at w processor).running ++ present_at (processor_at w from).running)
+    → HasIdsBelowTasks (present_at (processor_at w processor).running ++ present_at (processor_at w from).running)
 ids_two w processor from l o = λ id h.
     omega (
       arith,

@@ -6,22 +6,22 @@ use Rattle.bq_disc.specs.Tasks.{Task, find_task, present}
 use Rattle.bq_disc.specs.Discipline.{Discipline, left_at}
 use Rattle.bq_disc.specs.Queues.{HasDistinctIds}
 use Rattle.bq_disc.specs.OneProcessor.{Running, present_at, charge, marked}
-use Rattle.bq_parts.specs.Processors.{HasEachOnce, HasLobbyIds}
+use Rattle.bq_parts.specs.Processors.{HasEachOnce, HasIdsBelowTasks}
 use Rattle.bq_parts.specs.Moves.{taken_from}
 use Rattle.bq_disc.proofs.SetLemmas.{find_task-id}
 use Rattle.bq_parts.proofs.CountLemmas.{one, one_self, count_of-append, count_of-without, queue_le_present, find_task-absent, each_once_queue, HasEachOnce-left, HasEachOnce-right, HasDistinctIds-from_counts}
 use Rattle.bq_parts.proofs.OnceLemmas.{few_below}
 
 -- where all ids of two lists together are ids, those of the left one are
-pub ids_left : (xs ys : List Task) → HasLobbyIds (xs ++ ys) → HasLobbyIds xs
+pub ids_left : (xs ys : List Task) → HasIdsBelowTasks (xs ++ ys) → HasIdsBelowTasks xs
 ids_left xs ys h = λ id l. omega (arith, h id l, count_of-append id xs ys)
 
 -- where all ids of two lists together are ids, those of the right one are
-pub ids_right : (xs ys : List Task) → HasLobbyIds (xs ++ ys) → HasLobbyIds ys
+pub ids_right : (xs ys : List Task) → HasIdsBelowTasks (xs ++ ys) → HasIdsBelowTasks ys
 ids_right xs ys h = λ id l. omega (arith, h id l, count_of-append id xs ys)
 
 -- a processor has at most as many tasks as the lobby has entries
-few_running : (p : Running) → HasEachOnce (present_at p) → HasLobbyIds (present_at p) → length (present_at p) ≤ 1024
+few_running : (p : Running) → HasEachOnce (present_at p) → HasIdsBelowTasks (present_at p) → length (present_at p) ≤ 1024
 few_running p h k = few_below (present_at p) 1024 h k
 
 -- a change of the current task, if there is one, leaves the number of tasks
@@ -31,7 +31,7 @@ size_by_case f (Some t) queue = refl
 
 -- the puller, once charged, has no more tasks than the lobby has entries
 pub puller_within_lobby : (d : Discipline) (p q : Running) (now : ℕ)
-    → HasEachOnce (present_at p ++ present_at q) → HasLobbyIds (present_at p ++ present_at q)
+    → HasEachOnce (present_at p ++ present_at q) → HasIdsBelowTasks (present_at p ++ present_at q)
     → length (present_at (charge d p now)) ≤ 1024
 puller_within_lobby d p q now h k =
     let same : length (present_at (charge d p now)) ≡ length (present_at p) = size_by_case _ p.current p.queue in
@@ -39,7 +39,7 @@ puller_within_lobby d p q now h k =
 
 -- the source has no more tasks than the lobby has entries either
 pub source_within_lobby : (p q : Running) → HasEachOnce (present_at p ++ present_at q)
-    → HasLobbyIds (present_at p ++ present_at q)
+    → HasIdsBelowTasks (present_at p ++ present_at q)
     → length (present_at q) ≤ 1024
 source_within_lobby p q h k = few_running q (HasEachOnce-right (present_at p) (present_at q) h) (ids_right (present_at p) (present_at q) k)
 

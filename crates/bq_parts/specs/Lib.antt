@@ -7,4 +7,4 @@ pub mod Events
 pub mod Moves
 pub mod Shares
 pub mod Steps
-pub mod StandsOnce
+pub mod Orderly

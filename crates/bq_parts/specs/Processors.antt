@@ -42,6 +42,6 @@ count_of_id id (x ∷ xs) = (if has_id id x then 1 else 0) + count_of_id id xs
 abbrev pub HasEachOnce : List Task → Type 0
 HasEachOnce xs = (id : ℕ) → count_of_id id xs ≤ 1
 
--- each id is one that the lobby has an entry for
-abbrev pub HasLobbyIds : List Task → Type 0
-HasLobbyIds xs = (id : ℕ) → TASKS ≤ id → count_of_id id xs ≡ 0
+-- each id is below TASKS
+abbrev pub HasIdsBelowTasks : List Task → Type 0
+HasIdsBelowTasks xs = (id : ℕ) → TASKS ≤ id → count_of_id id xs ≡ 0

@@ -61,11 +61,11 @@ impl<Q: RunQueue> Cpu<Q> {
     pub fn new() -> Cpu<Q>
         ensures { result ≡ new_processor }
     {
-        Cpu::over(Q::empty())
+        Cpu::with_queue(Q::empty())
     }
 
-    /// A new processor over an empty queue that the caller hands in. Nothing is installed at its hooks.
-    pub fn over(queue: Q) -> Cpu<Q>
+    /// Makes a processor of an empty queue that the caller hands in. Nothing runs there, and nothing is installed at its hooks.
+    pub fn with_queue(queue: Q) -> Cpu<Q>
         requires empty { Q.members queue ≡ [] }
         requires mark { Q.last_mark queue ≡ FIRST_MARK }
         ensures { result ≡ new_processor }
@@ -273,8 +273,8 @@ impl<Q: RunQueue> Cpu<Q> {
         self.hand.is_some()
     }
 
-    /// Takes a woken task into the hand.
-    pub fn begin(&mut self, carried: Carried)
+    /// Puts a woken task, with the loads that were counted for it, into the empty hand.
+    pub fn put_in_hand(&mut self, carried: Carried)
         requires { self.old.hand ≡ None }
         ensures { self.new ≡ record self.old { hand = Some carried } }
     {

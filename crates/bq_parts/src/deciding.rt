@@ -9,7 +9,7 @@ ghost use Rattle.bq_hooks.specs.Contexts.{as_number};
 ghost use Rattle.bq_hooks.specs.OwnPlace.{HasPlace};
 ghost use Rattle.bq_disc.specs.Queues.{HasDistinctIds};
 ghost use Rattle.bq_disc.specs.OneProcessor.{present_at};
-ghost use Rattle.bq_parts.specs.Processors.{HasEachOnce, HasLobbyIds, size_of};
+ghost use Rattle.bq_parts.specs.Processors.{HasEachOnce, HasIdsBelowTasks, size_of};
 ghost use Rattle.bq_parts.specs.Choices.{by_programs, place_bytes, SettlesPlace, SettlesPreempt, SettlesPulled, decided_by, decision_of};
 
 use crate::{Carried, Cpu, HookDecision};
@@ -45,7 +45,7 @@ impl<Q: RunQueue> Cpu<Q> {
     ) -> HookDecision<u8>
         requires few { count ≤ PROCESSORS }
         requires usable { HasPlace count carried.now.task }
-        requires unasked { scratch.old ≡ [] }
+        requires no_calls { scratch.old ≡ [] }
         ensures settled { SettlesPlace (by_programs Q.R.discipline) count processor self.old carried.now (decision_of (λ number. number) result scratch.new self.new.hooks.place) }
         ensures rest { self.new ≡ record self.old { hooks = record self.old.hooks { place = self.new.hooks.place } } }
         ensures board { Through B.leads board.old scratch.new board.new }
@@ -106,7 +106,7 @@ impl<Q: RunQueue> Cpu<Q> {
     ) -> HookDecision<bool>
         requires distinct { HasDistinctIds self.old.running.queue }
         requires few { length self.old.running.queue < 2 ^ 32 }
-        requires unasked { scratch.old ≡ [] }
+        requires no_calls { scratch.old ≡ [] }
         ensures settled { SettlesPreempt (by_programs Q.R.discipline) processor self.old self.old.running.current (decision_of as_number result scratch.new self.new.hooks.preempt) }
         ensures rest { self.new ≡ record self.old { hooks = record self.old.hooks { preempt = self.new.hooks.preempt } } }
         ensures board { Through B.leads board.old scratch.new board.new }
@@ -139,8 +139,8 @@ impl<Q: RunQueue> Cpu<Q> {
         board: &mut B,
     ) -> HookDecision<bool>
         requires once { HasEachOnce (present_at self.old.running) }
-        requires ids { HasLobbyIds (present_at self.old.running) }
-        requires unasked { scratch.old ≡ [] }
+        requires ids { HasIdsBelowTasks (present_at self.old.running) }
+        requires no_calls { scratch.old ≡ [] }
         ensures settled { SettlesPreempt (by_programs Q.R.discipline) processor self.old self.old.running.current (decision_of as_number result scratch.new self.new.hooks.preempt) }
         ensures decided { self.new ≡ decided_by (by_programs Q.R.discipline) self.old (decision_of as_number result scratch.new self.new.hooks.preempt) }
         ensures board { Through B.leads board.old scratch.new board.new }
@@ -167,7 +167,7 @@ impl<Q: RunQueue> Cpu<Q> {
         requires few { size_of self.old ≤ TASKS }
         requires few_from { size_of source.now ≤ TASKS }
         requires distinct { HasDistinctIds source.now.running.queue }
-        requires unasked { scratch.old ≡ [] }
+        requires no_calls { scratch.old ≡ [] }
         ensures settled { SettlesPulled (by_programs Q.R.discipline) processor from self.old source.now result scratch.new self.new.hooks.pull }
         ensures rest { self.new ≡ record self.old { hooks = record self.old.hooks { pull = self.new.hooks.pull } } }
         ensures board { Through B.leads board.old scratch.new board.new }

@@ -3,7 +3,7 @@ ghost use Rattle.std.specs.Prelude.{◌≡◌, ◌<◌, ◌++◌, [], None, IfSo
 ghost use Rattle.bq_disc.specs.Tasks.{id_of, find_task};
 ghost use Rattle.bq_disc.specs.OneProcessor.{present_at};
 ghost use Rattle.bq_bpf.specs.Counters.{Through};
-ghost use Rattle.bq_parts.specs.Processors.{HasEachOnce, HasLobbyIds};
+ghost use Rattle.bq_parts.specs.Processors.{HasEachOnce, HasIdsBelowTasks};
 ghost use Rattle.bq_parts.specs.Choices.{by_programs};
 ghost use Rattle.bq_parts.specs.Moves.{after_pull, taken_from, without_task};
 ghost use Rattle.bq_parts.specs.Shares.{Pulls};
@@ -29,8 +29,8 @@ impl<Q: RunQueue> Cpu<Q> {
     ) -> Reply
         requires inside { processor < PROCESSORS }
         requires once { HasEachOnce (present_at self.old.running ++ present_at source.old.running) }
-        requires ids { HasLobbyIds (present_at self.old.running ++ present_at source.old.running) }
-        requires unasked { scratch.old ≡ [] }
+        requires ids { HasIdsBelowTasks (present_at self.old.running ++ present_at source.old.running) }
+        requires no_calls { scratch.old ≡ [] }
         ensures share { Pulls (by_programs Q.R.discipline) processor from now self.old source.old scratch.new result self.new source.new }
         ensures board { Through B.leads board.old scratch.new board.new }
     {

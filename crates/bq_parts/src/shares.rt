@@ -4,7 +4,7 @@
 ghost use Rattle.std.specs.Prelude.{◌≡◌, ◌++◌, []};
 ghost use Rattle.bq_bpf.specs.Counters.{Through};
 ghost use Rattle.bq_disc.specs.OneProcessor.{present_at};
-ghost use Rattle.bq_parts.specs.Processors.{HasEachOnce, HasLobbyIds};
+ghost use Rattle.bq_parts.specs.Processors.{HasEachOnce, HasIdsBelowTasks};
 ghost use Rattle.bq_parts.specs.Choices.{by_programs};
 ghost use Rattle.bq_parts.specs.Shares.{Blocks, Drains, Ticks};
 
@@ -23,8 +23,8 @@ impl<Q: RunQueue> Cpu<Q> {
         board: &mut B,
     ) -> Reply
         requires once { HasEachOnce (present_at self.old.running) }
-        requires ids { HasLobbyIds (present_at self.old.running) }
-        requires unasked { scratch.old ≡ [] }
+        requires ids { HasIdsBelowTasks (present_at self.old.running) }
+        requires no_calls { scratch.old ≡ [] }
         ensures share { Ticks (by_programs Q.R.discipline) processor now self.old scratch.new result self.new }
         ensures board { Through B.leads board.old scratch.new board.new }
     {
@@ -47,8 +47,8 @@ impl<Q: RunQueue> Cpu<Q> {
         board: &mut B,
     ) -> Reply
         requires once { HasEachOnce (present_at self.old.running ++ inbox.old) }
-        requires ids { HasLobbyIds (present_at self.old.running ++ inbox.old) }
-        requires unasked { scratch.old ≡ [] }
+        requires ids { HasIdsBelowTasks (present_at self.old.running ++ inbox.old) }
+        requires no_calls { scratch.old ≡ [] }
         ensures share { Drains (by_programs Q.R.discipline) processor now self.old inbox.old scratch.new result self.new }
         ensures emptied { inbox.new ≡ [] }
         ensures board { Through B.leads board.old scratch.new board.new }
@@ -68,7 +68,7 @@ impl<Q: RunQueue> Cpu<Q> {
 
     /// The processor's running task goes to the lobby, and the queue's choice runs.
     pub fn block(&mut self, lobby: &mut Lobby, processor: u8, now: u64) -> Result<Reply, Refusal>
-        requires { HasLobbyIds (present_at self.old.running) }
+        requires { HasIdsBelowTasks (present_at self.old.running) }
         ensures share { Blocks Q.R.discipline processor now self.old lobby.old result self.new lobby.new }
     {
         if self.current().is_none() {

@@ -33,11 +33,11 @@ impl<Q: RunQueue> Cpu<Q> {
         requires below { task < TASKS }
         ensures share { BeginsWake task loads.now self.old lobby.old result self.new lobby.new }
     {
-        self.begin_with(lobby, task, loads.copy())
+        self.begin_wake_with_loads(lobby, task, loads.copy())
     }
 
     /// A sleeping task goes from the lobby into the hand, with loads that were counted only for this wake.
-    pub fn begin_with(
+    pub fn begin_wake_with_loads(
         &mut self,
         lobby: &mut Lobby,
         task: u16,
@@ -59,7 +59,7 @@ impl<Q: RunQueue> Cpu<Q> {
             task: lobby.take_sleeper(task),
             loads: loads.copy(),
         };
-        self.begin(carried);
+        self.put_in_hand(carried);
         Ok(Reply::Begun { task, loads })
     }
 
@@ -74,7 +74,7 @@ impl<Q: RunQueue> Cpu<Q> {
     ) -> Option<Placement>
         requires few { count ≤ PROCESSORS }
         requires usable { IfSome self.old.hand (λ c. HasPlace count c.task) }
-        requires unasked { scratch.old ≡ [] }
+        requires no_calls { scratch.old ≡ [] }
         ensures share { Places (by_programs Q.R.discipline) count processor now self.old scratch.new result self.new }
         ensures below { IfSome result (λ x. x.to < count) }
         ensures board { Through B.leads board.old scratch.new board.new }

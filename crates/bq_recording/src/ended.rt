@@ -7,7 +7,7 @@ ghost use Rattle.bq_history.specs.History.{IsHistory, EachOnce, AreReceiptsOf};
 ghost use Rattle.bq_shared.specs.Sums.{AreSumsOf};
 ghost use Rattle.bq_shared.specs.Calls.{calls_in};
 ghost use Rattle.bq_parts.specs.World.{World, opening_world};
-ghost use Rattle.bq_parts.specs.StandsOnce.{IsOrderly};
+ghost use Rattle.bq_parts.specs.Orderly.{IsOrderly};
 ghost use Rattle.bq_shared.specs.Parts.{RecordStep, reported_calls, same_part};
 ghost use Rattle.bq_shared.specs.declared.law.WorldPart.{WorldPart as PartOf};
 ghost use Rattle.bq_recording.specs.AllParts.{parts_out, IsMadeOf};

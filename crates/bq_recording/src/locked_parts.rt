@@ -72,7 +72,7 @@ fn cpu_locks<Q: RunQueue + Drop, N: Naming>(
     for queue in queues {
         let content = NumberedCpu {
             number,
-            state: Cpu::over(queue),
+            state: Cpu::with_queue(queue),
             scratch: Scratch::new(),
         };
         locks.push(Mutex::new(Locked::open(history, all, content)))?;

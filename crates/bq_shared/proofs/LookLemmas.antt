@@ -9,7 +9,7 @@ use Rattle.bq_hooks.specs.OwnPlace.{HasPlace}
 use Rattle.bq_parts.specs.declared.carried.Carried.{Carried}
 use Rattle.bq_parts.specs.declared.lobby_entry.LobbyEntry.{LobbyEntry}
 use Rattle.bq_parts.specs.declared.lobby_entry.LobbyEntry.TheVariants.{Absent, Sleeping}
-use Rattle.bq_parts.specs.Processors.{Processor, HasEachOnce, HasLobbyIds}
+use Rattle.bq_parts.specs.Processors.{Processor, HasEachOnce, HasIdsBelowTasks}
 use Rattle.bq_parts.specs.World.{World, opening_world, processor_at, inbox}
 use Rattle.bq_parts.proofs.CountLemmas.{count_of-append}
 use Rattle.bq_parts.proofs.OnceLemmas.{standing_once, held_two, count_of-held_by, each_once_running, each_once_runnable, none_beyond_at, few_at}
@@ -29,10 +29,10 @@ module _ (d : Discipline) (n c : ℕ) (p : Processor) where
       (each_once_running k.0 c (reached_sound d n k.0 k.1).orderly)
 
   -- each id there is one of the lobby
-  pub seen_ids : Seen → HasLobbyIds (present_at p.running)
+  pub seen_ids : Seen → HasIdsBelowTasks (present_at p.running)
   seen_ids k =
       let s = reached_sound d n k.0 k.1 in
-      subst (λ (x : Processor). HasLobbyIds (present_at x.running)) k.2.1 (λ id h.
+      subst (λ (x : Processor). HasIdsBelowTasks (present_at x.running)) k.2.1 (λ id h.
       let p' = (processor_at k.0 c).running in
       omega (arith, none_beyond_at k.0 c id s.lobby s.orderly h, count_of-append id (present_at p') (inbox k.0 c)))
 
@@ -71,7 +71,7 @@ module _ (d : Discipline) (n c : ℕ) (p : Processor) (xs : List Task) where
   both_once k = rw (← k.2.1, ← k.3.1) (each_once_runnable k.0 c (reached_sound d n k.0 k.1).orderly)
 
   -- each id there is one of the lobby
-  pub both_ids : SeenBoth → HasLobbyIds (present_at p.running ++ xs)
+  pub both_ids : SeenBoth → HasIdsBelowTasks (present_at p.running ++ xs)
   both_ids k = let s = reached_sound d n k.0 k.1 in rw (← k.2.1, ← k.3.1) (λ id h. none_beyond_at k.0 c id s.lobby s.orderly h)
 
 -- a look at two processors
@@ -98,12 +98,12 @@ module _ (d : Discipline) (n c b : ℕ) (p q : Processor) (apart : c ≢ b) wher
       rw (← k.2.1, ← k.3.1) both
 
   -- each id at the two is one of the lobby
-  pub two_ids : SeenTwo → HasLobbyIds (present_at p.running ++ present_at q.running)
+  pub two_ids : SeenTwo → HasIdsBelowTasks (present_at p.running ++ present_at q.running)
   two_ids k =
       let s = reached_sound d n k.0 k.1 in
       let one = (processor_at k.0 c).running in
       let other = (processor_at k.0 b).running in
-      let both : HasLobbyIds (present_at one ++ present_at other) =
+      let both : HasIdsBelowTasks (present_at one ++ present_at other) =
       λ id h. omega (
         arith,
         none_beyond_at k.0 c id s.lobby s.orderly h,

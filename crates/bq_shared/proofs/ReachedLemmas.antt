@@ -13,7 +13,7 @@ use Rattle.bq_parts.specs.Processors.{new_processor}
 use Rattle.bq_parts.specs.World.{World, opening_world, count_in}
 use Rattle.bq_parts.specs.Choices.{PolicySemantics, by_programs}
 use Rattle.bq_parts.specs.Steps.{WorldStep, Performs}
-use Rattle.bq_parts.specs.StandsOnce.{IsOrderly}
+use Rattle.bq_parts.specs.Orderly.{IsOrderly}
 use Rattle.bq_core.proofs.OrderLemmas.{step_tidy, step_keeps, opening_is_orderly}
 use Rattle.bq_history.specs.History.{IsReached}
 use Rattle.bq_history.proofs.ReachingLemmas.{reached_keeps}

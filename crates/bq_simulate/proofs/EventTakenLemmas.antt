@@ -28,7 +28,7 @@ use Rattle.bq_parts.specs.Choices.{SettledChoice, decided_by, own_pull, by_progr
 use Rattle.bq_parts.specs.Moves.{after_leaving, as_it_leaves, taken_from, without_task}
 use Rattle.bq_parts.specs.Refusals.{either_refusal, generation_refusal, is_away, same_hook}
 use Rattle.bq_parts.specs.Shares.{after_time, mark_updated}
-use Rattle.bq_parts.specs.StandsOnce.{IsOrderly}
+use Rattle.bq_parts.specs.Orderly.{IsOrderly}
 use Rattle.bq_parts.specs.Steps.{WorldStep}
 use Rattle.bq_parts.proofs.CountLemmas.{each_once_queue}
 use Rattle.bq_parts.proofs.OnceLemmas.{each_once_running}

@@ -13,7 +13,7 @@ use Rattle.bq_parts.specs.declared.refusal.Refusal.TheVariants as no
 use Rattle.bq_parts.specs.Choices.{by_programs}
 use Rattle.bq_parts.specs.Processors.{Processor, count_of_id}
 use Rattle.bq_parts.specs.Refusals.{is_away}
-use Rattle.bq_parts.specs.StandsOnce.{IsOrderly}
+use Rattle.bq_parts.specs.Orderly.{IsOrderly}
 use Rattle.bq_parts.specs.Steps.{WorldStep}
 use Rattle.bq_parts.specs.World.{World, processor_at, entry_of_id, count_in}
 use Rattle.bq_parts.proofs.CountLemmas.{one_self}

@@ -16,7 +16,7 @@ use Rattle.bq_parts.specs.Processors.{Processor, new_processor, size_of}
 use Rattle.bq_parts.specs.World.{World, processor_at, entry_of_id, count_in, with_processor}
 use Rattle.bq_parts.specs.Choices.{PolicySemantics}
 use Rattle.bq_parts.specs.Refusals.{first_refusal, no_processor}
-use Rattle.bq_parts.specs.StandsOnce.{IsOrderly}
+use Rattle.bq_parts.specs.Orderly.{IsOrderly}
 use Rattle.bq_parts.specs.Steps.{WorldStep}
 use Rattle.bq_parts.proofs.TallyLemmas.{tally, tally-charge, tally-decided}
 use Rattle.bq_core.proofs.EachProcessorLemmas.{at_set, at_set_else}

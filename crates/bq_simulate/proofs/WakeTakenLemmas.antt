@@ -22,7 +22,7 @@ use Rattle.bq_parts.specs.World.{World, processor_at, inbox, entry_of_id, count_
 use Rattle.bq_parts.specs.Choices.{SettledChoice, decided_by, place_bytes, by_programs}
 use Rattle.bq_parts.specs.Refusals.{either_refusal, is_absent}
 use Rattle.bq_parts.specs.Shares.{after_time}
-use Rattle.bq_parts.specs.StandsOnce.{IsOrderly}
+use Rattle.bq_parts.specs.Orderly.{IsOrderly}
 use Rattle.bq_parts.specs.Steps.{WorldStep}
 use Rattle.bq_parts.proofs.PermittedLemmas.{may_place_fits, settled_permitted}
 use Rattle.bq_parts.proofs.TallyLemmas.{tally, tally-charge, tally-decided, tally-enter_all}

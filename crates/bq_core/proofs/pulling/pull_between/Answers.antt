@@ -112,14 +112,14 @@ bounds-low-from g c = omega (arith, c.split_at_mut-low.ensures.front_len)
 pub pull-requires-clause-inside : goal.pull-requires-clause-inside
 pull-requires-clause-inside g c = below_64 c.args.processor _ c.requires.inside c.requires.few
 
-pub pull-requires-clause-unasked : goal.pull-requires-clause-unasked
-pull-requires-clause-unasked g c = c.requires.unasked
+pub pull-requires-clause-no_calls : goal.pull-requires-clause-no_calls
+pull-requires-clause-no_calls g c = c.requires.no_calls
 
 pub pull-requires-else-processor-from-clause-inside : goal.pull-requires-else-processor-from-clause-inside
 pull-requires-else-processor-from-clause-inside g c = below_64 c.args.processor _ c.requires.inside c.requires.few
 
-pub pull-requires-else-processor-from-clause-unasked : goal.pull-requires-else-processor-from-clause-unasked
-pull-requires-else-processor-from-clause-unasked g c = c.requires.unasked
+pub pull-requires-else-processor-from-clause-no_calls : goal.pull-requires-else-processor-from-clause-no_calls
+pull-requires-else-processor-from-clause-no_calls g c = c.requires.no_calls
 
 pub returns-then-processor-from-clause-board : goal.returns-then-processor-from-clause-board
 returns-then-processor-from-clause-board g c = c.pull.ensures.board

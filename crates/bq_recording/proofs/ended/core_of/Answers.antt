@@ -1,7 +1,7 @@
 use Rattle.std.proofs.Common.{ℕ, List, [], length, rules, sym, ap, subst, ◌∙◌}
 use Rattle.bq_disc.specs.Tasks.{Task}
 use Rattle.bq_parts.specs.Processors.{Processor, new_processor}
-use Rattle.bq_parts.specs.StandsOnce.{IsOrderly}
+use Rattle.bq_parts.specs.Orderly.{IsOrderly}
 use Rattle.bq_shared.specs.declared.cells.NumberedCpu.{NumberedCpu}
 use Rattle.bq_shared.specs.declared.cells.NumberedInbox.{NumberedInbox}
 use Rattle.bq_history.proofs.OrderedLemmas.{below}

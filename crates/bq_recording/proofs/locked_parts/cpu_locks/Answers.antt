@@ -8,8 +8,8 @@ use Rattle.bq_shared.specs.Opened.{cpu_items}
 use Rattle.bq_shared.proofs.OpenedLemmas.{cpu_turn}
 use Rattle.bq_recording.proofs.locked_parts.cpu_locks.Goals as goal
 
-pub over-requires-clause-empty : goal.over-requires-clause-empty
-over-requires-clause-empty g c =
+pub with_queue-requires-clause-empty : goal.with_queue-requires-clause-empty
+with_queue-requires-clause-empty g c =
     let e =
     YieldsList-from_vec {s = c.into_iter-queue-iterator.result}
     c.args.queues.items c.into_iter-queue-iterator.ensures.into_iter_gives.0
@@ -19,8 +19,8 @@ over-requires-clause-empty g c =
     c.in-Some.queue c.in-Some.is c.next.ensures.steps in
     ap g.Q.RunQueue.members turn.1 ∙ (c.requires.empty (length c.loop-queue.yielded) c.in-Some.queue turn.0).0
 
-pub over-requires-clause-mark : goal.over-requires-clause-mark
-over-requires-clause-mark g c =
+pub with_queue-requires-clause-mark : goal.with_queue-requires-clause-mark
+with_queue-requires-clause-mark g c =
     let e =
     YieldsList-from_vec {s = c.into_iter-queue-iterator.result}
     c.args.queues.items c.into_iter-queue-iterator.ensures.into_iter_gives.0
@@ -43,7 +43,7 @@ open-requires-clause-item g c =
     let n = length c.args.queues.items in
     let b : c.loop-queue.number < n = omega (arith, c.loop-queue.invariant.0, turn.0) in
     ap first_item (c.loop-queue.invariant.2 r.0 r.1 ∙ cpu_turn c.loop-queue.number n r.0 b)
-    ∙ ap (λ x. part_item (cpu_part c.loop-queue.number x) ∷ []) (sym c.over.ensures)
+    ∙ ap (λ x. part_item (cpu_part c.loop-queue.number x) ∷ []) (sym c.with_queue.ensures)
 
 pub overflow_add-number : goal.overflow_add-number
 overflow_add-number g c =

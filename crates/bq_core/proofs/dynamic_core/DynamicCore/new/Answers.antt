@@ -1,6 +1,6 @@
 use Rattle.std.proofs.Common.{sym, subst}
 use Rattle.bq_parts.specs.World.{World}
-use Rattle.bq_parts.specs.StandsOnce.{IsOrderly}
+use Rattle.bq_parts.specs.Orderly.{IsOrderly}
 use Rattle.bq_core.proofs.OrderLemmas.{opening_is_orderly}
 use Rattle.bq_core.proofs.dynamic_core.DynamicCore.new.Goals as goal
 

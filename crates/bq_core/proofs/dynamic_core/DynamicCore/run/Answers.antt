@@ -1,6 +1,6 @@
 use Rattle.std.proofs.Common.{subst}
 use Rattle.bq_parts.specs.Choices.{by_programs}
-use Rattle.bq_parts.specs.StandsOnce.{IsOrderly}
+use Rattle.bq_parts.specs.Orderly.{IsOrderly}
 use Rattle.bq_core.proofs.OrderLemmas.{run_keeps}
 use Rattle.bq_core.proofs.dynamic_core.DynamicCore.run.Goals as goal
 

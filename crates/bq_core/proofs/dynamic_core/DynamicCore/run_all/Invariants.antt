@@ -4,7 +4,7 @@ use Rattle.std.specs.Vec.Iter.{into_iter_items, into_iter_len}
 use Rattle.bq_bpf.specs.declared.board.CounterCall.{CounterCall}
 use Rattle.bq_parts.specs.Choices.{by_programs}
 use Rattle.bq_parts.specs.Steps.{WorldRun, ThroughAll}
-use Rattle.bq_parts.specs.StandsOnce.{IsOrderly}
+use Rattle.bq_parts.specs.Orderly.{IsOrderly}
 use Rattle.bq_core.proofs.dynamic_core.DynamicCore.run_all.Given as goal
 
 abbrev pub invariant-loop-event : goal.invariant-loop-event

@@ -26,8 +26,8 @@ from-requires g c = tt
 pub index_mut-cpu-requires : goal.index_mut-cpu-requires
 index_mut-cpu-requires g c = in_range c.self.view_is c.from.ensures c.self.inside.cpus.ok.0 c.requires.inside
 
-pub begin_with-requires : goal.begin_with-requires
-begin_with-requires g c = record { below = c.requires.below }
+pub begin_wake_with_loads-requires : goal.begin_wake_with_loads-requires
+begin_wake_with_loads-requires g c = record { below = c.requires.below }
 
 pub returns : goal.returns
 returns g c =
@@ -39,16 +39,16 @@ returns g c =
     let lobby = ap (λ (v : World). v.lobby) c.self.view_is in
     let step =
     begins_at g.Q.R.Discipline.discipline w _ c.args.processor c.args.task
-    c.loads_of-loads.result c.begin_with.result c.begin_with.new.self _ _ c.begin_with.new.lobby
-    c.requires.inside c.requires.below loads place lobby c.begin_with.ensures.share
-    (write_back_lobby _ w _ c.args.processor c.begin_with.new.self c.begin_with.new.lobby c.self.view_is c.from.ensures) in
+    c.loads_of-loads.result c.begin_wake_with_loads.result c.begin_wake_with_loads.new.self _ _ c.begin_wake_with_loads.new.lobby
+    c.requires.inside c.requires.below loads place lobby c.begin_wake_with_loads.ensures.share
+    (write_back_lobby _ w _ c.args.processor c.begin_wake_with_loads.new.self c.begin_wake_with_loads.new.lobby c.self.view_is c.from.ensures) in
     record { step = step }
 
 pub invariant_of-self : goal.invariant_of-self
 invariant_of-self g c = (
   rw length-set c.self.invariant.0,
   c.self.invariant.1,
-  entries_begun c.args.task c.loads_of-loads.result c.index_mut-cpu.result.now c.begin_with.new.self c.self.inside.lobby
-      c.begin_with.new.lobby c.begin_with.result c.begin_with.ensures.share
+  entries_begun c.args.task c.loads_of-loads.result c.index_mut-cpu.result.now c.begin_wake_with_loads.new.self c.self.inside.lobby
+      c.begin_wake_with_loads.new.lobby c.begin_wake_with_loads.result c.begin_wake_with_loads.ensures.share
       ∙ c.self.invariant.2,
 )

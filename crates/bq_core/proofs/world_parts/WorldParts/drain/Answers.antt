@@ -45,8 +45,8 @@ index_mut-inbox-requires g c = inbox_in_range c.self.view_is c.from.ensures c.se
 pub index_mut-cpu-requires : goal.index_mut-cpu-requires
 index_mut-cpu-requires g c = in_range c.self.view_is c.from-2.ensures c.self.inside.cpus.ok.0 c.requires.inside
 
-pub drain-requires-clause-unasked : goal.drain-requires-clause-unasked
-drain-requires-clause-unasked g c = c.requires.unasked
+pub drain-requires-clause-no_calls : goal.drain-requires-clause-no_calls
+drain-requires-clause-no_calls g c = c.requires.no_calls
 
 pub invariant_of-self : goal.invariant_of-self
 invariant_of-self g c = (rw (length-set, length-set) c.self.invariant.0, rw length-set c.self.invariant.1, c.self.invariant.2)

@@ -26,8 +26,8 @@ end_wake-requires-clause-few g c =
     let n : c.len-count.result ≡ length c.self.inside.cpus.items = omega arith in
     rw (n ∙ c.self.invariant.0) c.self.invariant.1
 
-pub end_wake-requires-clause-unasked : goal.end_wake-requires-clause-unasked
-end_wake-requires-clause-unasked g c = c.requires.unasked
+pub end_wake-requires-clause-no_calls : goal.end_wake-requires-clause-no_calls
+end_wake-requires-clause-no_calls g c = c.requires.no_calls
 
 pub invariant_of-self : goal.invariant_of-self
 invariant_of-self g c = (rw length-set c.self.invariant.0, c.self.invariant.1, c.self.invariant.2)

@@ -26,8 +26,8 @@ pull_between-requires-clause-inside_from g c = rw (lent c.self.view_is c.as_mut_
 pub pull_between-requires-clause-apart : goal.pull_between-requires-clause-apart
 pull_between-requires-clause-apart g c = c.requires.apart
 
-pub pull_between-requires-clause-unasked : goal.pull_between-requires-clause-unasked
-pull_between-requires-clause-unasked g c = c.requires.unasked
+pub pull_between-requires-clause-no_calls : goal.pull_between-requires-clause-no_calls
+pull_between-requires-clause-no_calls g c = c.requires.no_calls
 
 pub invariant_of-self : goal.invariant_of-self
 invariant_of-self g c =

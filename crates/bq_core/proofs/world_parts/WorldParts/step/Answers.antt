@@ -151,7 +151,7 @@ end_wake-requires g c = record {
   inside =
       (not_refused_is_there (count_in c.args.self.now) c.in-EndWake.processor None
       (none_refused c.argument_refusal.ensures c.in_default.is c.processors.ensures.value c.in-EndWake.is)).0;
-  unasked = c.clear.ensures;
+  no_calls = c.clear.ensures;
 }
 
 pub returns-in-EndWake-clause-step : goal.returns-in-EndWake-clause-step
@@ -168,7 +168,7 @@ drain-requires g c = record {
   inside =
       (not_refused_is_there (count_in c.args.self.now) c.in-Drain.processor None
       (none_refused c.argument_refusal.ensures c.in_default.is c.processors.ensures.value c.in-Drain.is)).0;
-  unasked = c.clear.ensures;
+  no_calls = c.clear.ensures;
 }
 
 pub returns-in-Drain-clause-step : goal.returns-in-Drain-clause-step
@@ -185,7 +185,7 @@ tick-requires g c = record {
   inside =
       (not_refused_is_there (count_in c.args.self.now) c.in-Tick.processor None
       (none_refused c.argument_refusal.ensures c.in_default.is c.processors.ensures.value c.in-Tick.is)).0;
-  unasked = c.clear.ensures;
+  no_calls = c.clear.ensures;
 }
 
 pub returns-in-Tick-clause-step : goal.returns-in-Tick-clause-step
@@ -217,7 +217,7 @@ pull-requires g c =
     let inside =
     pulls_inside (count_in c.args.self.now) c.in-Pull.processor c.in-Pull.from c.in-Pull.now
     (none_refused c.argument_refusal.ensures c.in_default.is c.processors.ensures.value c.in-Pull.is) in
-    record { orderly = c.requires.orderly; inside = inside.0; inside_from = inside.1; apart = inside.2; unasked = c.clear.ensures }
+    record { orderly = c.requires.orderly; inside = inside.0; inside_from = inside.1; apart = inside.2; no_calls = c.clear.ensures }
 
 pub returns-in-Pull-clause-step : goal.returns-in-Pull-clause-step
 returns-in-Pull-clause-step g c =

@@ -35,8 +35,8 @@ tick-requires-clause-ids g c =
     rw (borrowed c.self.view_is c.from.ensures c.requires.inside c.index_mut-cpu.ensures.value)
     (ids_running c.args.self.now c.args.processor (lobby_whole c.self.view_is c.self.invariant.2) c.requires.orderly)
 
-pub tick-requires-clause-unasked : goal.tick-requires-clause-unasked
-tick-requires-clause-unasked g c = c.requires.unasked
+pub tick-requires-clause-no_calls : goal.tick-requires-clause-no_calls
+tick-requires-clause-no_calls g c = c.requires.no_calls
 
 pub invariant_of-self : goal.invariant_of-self
 invariant_of-self g c =

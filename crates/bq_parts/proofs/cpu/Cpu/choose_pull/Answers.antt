@@ -11,4 +11,4 @@ returns-in_default-clause-settled g c =
     settles_unasked (by_programs g.Q.R.Discipline.discipline) c.args.processor c.args.from c.args.self.now
     c.args.source.now c.version.result (rw (← c.self.view_is) c.version.ensures) c.in_default.is
     (rw (← c.size-size.ensures, ← c.own_pull-own.ensures) small) in
-    rw (c.unasked.ensures, c.requires.unasked, c.own_pull-own.ensures, c.size-size.ensures) settled
+    rw (c.unasked.ensures, c.requires.no_calls, c.own_pull-own.ensures, c.size-size.ensures) settled
