@@ -29,7 +29,8 @@ use std::marker::Model;
 pub struct Cpu<Q: RunQueue> {
     pub(crate) queue: Q,
     pub(crate) current: Option<Unlinked>,
-    pub(crate) last: u64,
+    /// The last reading of the clock, in nanoseconds.
+    pub(crate) last_reading: u64,
     hand: Option<Carried>,
     pub(crate) hooks: Hooks,
 }
@@ -41,9 +42,9 @@ impl<Q: RunQueue> Model for Cpu<Q> {
 
     ghost Value = { Processor };
 
-    ghost view = { λ c. record { running = record { queue = Q.members c.queue; mark = Q.last_mark c.queue; current = c.current; last = c.last }; hand = c.hand; hooks = c.hooks } };
+    ghost view = { λ c. record { running = record { queue = Q.members c.queue; mark = Q.last_mark c.queue; current = c.current; last = c.last_reading }; hand = c.hand; hooks = c.hooks } };
 
-    ghost invariant = { λ c. c.last ≤ LATEST };
+    ghost invariant = { λ c. c.last_reading ≤ LATEST };
 }
 
 /// The node of the running task.
@@ -73,7 +74,7 @@ impl<Q: RunQueue> Cpu<Q> {
         Cpu {
             queue,
             current: None,
-            last: 0,
+            last_reading: 0,
             hand: None,
             hooks: Hooks::new(),
         }
@@ -103,13 +104,13 @@ impl<Q: RunQueue> Cpu<Q> {
         self.queue.mark()
     }
 
-    /// The queue's task of least (v, id) above `last`; its task of least (v, id) of all if there is no `last`.
-    pub fn after(&self, last: Option<(u64, u16)>) -> Option<&Node>
-        ensures task { option_map (λ n. task_of n.now) result ≡ find (follows last) self.now.running.queue }
+    /// The queue's task of least (v, id) above `key`; its task of least (v, id) of all if there is no `key`.
+    pub fn after(&self, key: Option<(u64, u16)>) -> Option<&Node>
+        ensures task { option_map (λ n. task_of n.now) result ≡ find (follows key) self.now.running.queue }
         ensures rising { IsRising self.now.running.queue }
         ensures distinct { HasDistinctIds self.now.running.queue }
     {
-        self.queue.after(last)
+        self.queue.after(key)
     }
 
     /// The generation of what is installed at a hook; 0 if nothing has been installed.
@@ -150,13 +151,13 @@ impl<Q: RunQueue> Cpu<Q> {
     pub fn charge(&mut self, now: u64)
         ensures { self.new ≡ record self.old { running = charge Q.R.discipline self.old.running now } }
     {
-        let at = self.last.max(now.min(LATEST));
+        let at = self.last_reading.max(now.min(LATEST));
         if let Some(task) = self.current.take() {
             let mut node = task.into_node();
-            self.queue.charge(&mut node, at - self.last);
+            self.queue.charge(&mut node, at - self.last_reading);
             self.current = Some(Unlinked::new(node));
         }
-        self.last = at;
+        self.last_reading = at;
         self.update_mark();
     }
 

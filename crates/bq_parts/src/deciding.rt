@@ -28,7 +28,7 @@ impl<Q: RunQueue> Cpu<Q> {
         ensures { result ≡ record { now = self.now.running.last; processor = processor } }
     {
         Env {
-            now: self.last,
+            now: self.last_reading,
             processor: u32::from(processor),
         }
     }
