@@ -63,7 +63,7 @@ pub enum Event {
 }
 
 impl Event {
-    /// A copy of the event; that of an `Install` has `policy` in place of its own.
+    /// Copies the event. The copy of an `Install` has `policy` in place of its own.
     #[inline(always)]
     pub fn with_policy(&self, policy: Option<Policy>) -> Event
         ensures { result ≡ with_policy self.now policy }
@@ -80,13 +80,13 @@ impl Event {
                 generation,
                 policy,
             },
-            _ => self.with_none(),
+            _ => self.without_policy(),
         }
     }
 
-    /// A copy of the event that brings no policy.
+    /// Copies the event without the policy that it brings. The copy can be reported after the event itself is done.
     #[inline(always)]
-    fn with_none(&self) -> Event
+    pub fn without_policy(&self) -> Event
         ensures { result ≡ with_policy self.now None }
     {
         match *self {

@@ -24,7 +24,7 @@ use Rattle.bq_load.proofs.JudgingLemmas.{header_fits, length-header_bytes}
 use Rattle.bq_simulate.specs.Spelling.{HasFittingNumbers, asking_line, machine_line}
 use Rattle.bq_simulate.specs.Laws.{CanStandInLine, IsWholeLine, event_command}
 use Rattle.bq_simulate.proofs.LineLawLemmas.{are_lines, events_are_read, machines_are_read}
-use Rattle.bq_trace.specs.Bare.{bare}
+use Rattle.bq_parts.specs.Events.{without_policy}
 use Rattle.bq_streams.specs.Counts.{one_more}
 use Rattle.bq_trace.specs.Machines.{Driven, opening_machine}
 use Rattle.bq_trace.specs.Feeding.{with_feeds}
@@ -160,7 +160,7 @@ again images m k n number (Pull c from now) answer reported is of h = as_it_is _
 
 -- an event and the same without its policy have one line
 same_line : (images : ByHook) (event : Event)
-    → asking_line (brought images (bare event)) (bare event) ≡ asking_line (brought images event) event
+    → asking_line (brought images (without_policy event)) (without_policy event) ≡ asking_line (brought images event) event
 same_line images (Admit task nice mask slice) = refl
 same_line images (Retire task) = refl
 same_line images Draw = refl
@@ -173,7 +173,7 @@ same_line images (Block c now) = refl
 same_line images (Pull c from now) = refl
 
 -- an event and the same without its policy have the same numbers
-same_numbers : (event : Event) → HasFittingNumbers (bare event) → HasFittingNumbers event
+same_numbers : (event : Event) → HasFittingNumbers (without_policy event) → HasFittingNumbers event
 same_numbers (Admit task nice mask slice) h = h
 same_numbers (Retire task) h = h
 same_numbers Draw h = h

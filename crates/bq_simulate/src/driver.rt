@@ -7,7 +7,6 @@ ghost use Rattle.bq_trace.specs.TraceEvents.{Gets};
 use crate::drive_fault::DriveFault;
 use bq_disc::clock::LATEST;
 use bq_parts::{Event, Refusal, Reply};
-use bq_trace::bare::bare;
 use bq_trace::{AnyCore, Sink, TraceEvent};
 use bq_words::{DisciplineName, ProcessorCount};
 use std::alloc::Global;
@@ -54,7 +53,7 @@ impl Driver {
     {
         self.read(reading_of(&event))?;
         self.line = self.line.saturating_add(1);
-        let reported = bare(&event);
+        let reported = event.without_policy();
         let coming = TraceEvent::Comes {
             event: &reported,
             machine: &self.machine,

@@ -1,4 +1,3 @@
-pub mod Bare
 pub mod Borrowed
 pub mod Cores
 pub mod Doing

@@ -20,7 +20,7 @@ use Rattle.bq_lines.specs.Lines.{reading_of_short_line}
 use Rattle.bq_lines.specs.declared.command.LineCommand.TheVariants.{Machine, Does, Wake, Load, Show, Counter}
 use Rattle.bq_lines.specs.declared.command.LineReading.{LineReading}
 use Rattle.bq_lines.specs.declared.command.LineReading.TheVariants as reads
-use Rattle.bq_trace.specs.Bare.{bare}
+use Rattle.bq_parts.specs.Events.{without_policy}
 use Rattle.bq_streams.specs.Counts.{one_more}
 use Rattle.bq_trace.specs.Feeding.{with_feeds}
 use Rattle.bq_trace.specs.Machines.{Driven, opening_machine, semantics_of, Advances}
@@ -41,7 +41,7 @@ pub record AdvancesMachine (m : Driven) (event : Event) (answer : Result Reply R
 pub record Happens (m : Driven) (n : ℕ) (event : Event) (answer : Result Reply Refusal) (reported : Reported) (k : Driven) : Type 0 where
   pub answered : answer ≢ Err no.OutOfMemory
   pub moves : AdvancesMachine m event answer k
-  pub reports : reported ≡ (n, Comes (bare event) m) ∷ (n, Answered (bare event) answer k) ∷ []
+  pub reports : reported ≡ (n, Comes (without_policy event) m) ∷ (n, Answered (without_policy event) answer k) ∷ []
 
 -- What follows the begin of a wake: its end, or nothing if the begin was refused.
 abbrev pub EndHappens : Result Reply Refusal → Driven → ℕ → ℕ → ℕ → Reported → Driven → Type 0

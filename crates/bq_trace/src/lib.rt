@@ -5,7 +5,6 @@
 #![tactic(auto)]
 
 mod any_core;
-pub mod bare;
 pub mod laws;
 mod loading;
 mod obeying;

@@ -8,7 +8,6 @@ ghost use Rattle.bq_trace.specs.TraceEvents.{Gets};
 ghost use Rattle.bq_trace.specs.Reporting.{Happens, WakeHappens, Reports};
 
 use crate::any_core::AnyCore;
-use crate::bare::bare;
 use crate::loading::Installation;
 use crate::phase::Phase;
 use crate::reporting::{report, report_bad, report_skipped};
@@ -31,7 +30,7 @@ impl AnyCore {
         ensures { IfOk result (λ done. (answer : Result Reply Refusal) × (is_ok answer ≡ done)
             × Gets S.takes sink.old sink.new (λ reported. Happens self.old number event answer reported self.new)) }
     {
-        let reported = bare(&event);
+        let reported = event.without_policy();
         let coming = TraceEvent::Comes {
             event: &reported,
             machine: self,

@@ -12,11 +12,11 @@ returns g c =
     let answer = c.step-answer.result in
     let apart : answer ≢ Err no.OutOfMemory = search rules in
     let comes =
-    subst (λ e. takes c.args.sink.now n (Comes e c.args.self.now) c.take.new.self) c.bare-reported.ensures
+    subst (λ e. takes c.args.sink.now n (Comes e c.args.self.now) c.take.new.self) c.without_policy-reported.ensures
     c.in_ok-take.ensures in
     let answered =
     subst (λ e. takes c.take.new.self n (Answered e answer c.step-answer.new.self) c.take-2.new.self)
-    c.bare-reported.ensures c.in_ok-take-2.ensures in (
+    c.without_policy-reported.ensures c.in_ok-take-2.ensures in (
       answer,
       sym c.is_ok.ensures.value,
       gets_two takes c.args.sink.now c.take.new.self c.take-2.new.self n _ _
