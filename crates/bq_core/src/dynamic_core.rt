@@ -1,10 +1,8 @@
 //! The world and its events: the call by which everything else drives it.
-ghost use Rattle.std.specs.Prelude.{◌≡◌, ◌+◌, ◌≤◌, ◌<◌, List, [], Err, OnErr, IfOk, IfErr, length, vec_len, vec_capacity};
-ghost use Rattle.bq_parts.specs.World.{opening_world, processor_at, count_in};
+ghost use Rattle.std.specs.Prelude.{◌≡◌, ◌+◌, ◌≤◌, ◌<◌, [], Err, OnErr, IfOk, IfErr, length, vec_len, vec_capacity};
+ghost use Rattle.bq_parts.specs.World.{opening_world, world_of_parts, processor_at, count_in};
 ghost use Rattle.bq_parts.specs.Choices.{by_programs};
-ghost use Rattle.bq_parts.specs.Steps.{WorldStep, RunsOn};
-ghost use Rattle.bq_bpf.specs.Counters.{Through};
-ghost use Rattle.bq_bpf.specs.declared.board.CounterCall.{CounterCall};
+ghost use Rattle.bq_parts.specs.Steps.{StepsOn, RunsOn};
 ghost use Rattle.bq_parts.specs.Orderly.{IsOrderly};
 ghost use Rattle.bq_parts.specs.declared.refusal.Refusal.TheVariants as no;
 ghost use Rattle.bq_core.specs.Laws.{StaysOrderly};
@@ -63,8 +61,8 @@ impl<Q: RunQueue> DynamicCore<Q> {
     ) -> DynamicCore<Q>
         requires few { length cpus.items ≤ PROCESSORS }
         requires inboxes { length inboxes.items ≡ length cpus.items }
-        requires orderly { IsOrderly (record { processors = cpus.items; inboxes = inboxes.items; lobby = lobby; drawn = drawn }) }
-        ensures { result ≡ record { processors = cpus.items; inboxes = inboxes.items; lobby = lobby; drawn = drawn } }
+        requires orderly { IsOrderly (world_of_parts cpus.items inboxes.items lobby drawn) }
+        ensures { result ≡ world_of_parts cpus.items inboxes.items lobby drawn }
     {
         DynamicCore {
             parts: WorldParts::of(cpus, inboxes, lobby, drawn),
@@ -96,7 +94,7 @@ impl<Q: RunQueue> DynamicCore<Q> {
         event: Event,
         board: &mut B,
     ) -> Result<Reply, Refusal>
-        ensures step { (calls : List CounterCall) × WorldStep (by_programs Q.R.discipline) self.old event calls result self.new × Through B.leads board.old calls board.new }
+        ensures step { StepsOn (by_programs Q.R.discipline) B.leads self.old board.old event result self.new board.new }
         ensures orderly { IsOrderly self.new }
     {
         self.parts.step(alloc, event, &mut self.scratch, board)

@@ -1,10 +1,8 @@
 //! The world of a number of processors that its type names.
-ghost use Rattle.std.specs.Prelude.{◌≡◌, ◌≤◌, ◌<◌, List, OnErr, IfOk, IfErr, length};
-ghost use Rattle.bq_parts.specs.World.{opening_world, processor_at, count_in};
+ghost use Rattle.std.specs.Prelude.{◌≡◌, ◌≤◌, ◌<◌, OnErr, IfOk, IfErr, length};
+ghost use Rattle.bq_parts.specs.World.{opening_world, world_of_parts, processor_at, count_in};
 ghost use Rattle.bq_parts.specs.Choices.{by_programs};
-ghost use Rattle.bq_parts.specs.Steps.{WorldStep, RunsOn};
-ghost use Rattle.bq_bpf.specs.Counters.{Through};
-ghost use Rattle.bq_bpf.specs.declared.board.CounterCall.{CounterCall};
+ghost use Rattle.bq_parts.specs.Steps.{StepsOn, RunsOn};
 ghost use Rattle.bq_parts.specs.Orderly.{IsOrderly};
 ghost use Rattle.bq_parts.specs.declared.refusal.Refusal.TheVariants as no;
 ghost use Rattle.bq_core.specs.Laws.{StaysOrderly};
@@ -60,8 +58,8 @@ impl<Q: RunQueue, const P: usize> Core<Q, P> {
         requires few { P ≤ PROCESSORS }
         requires cpus { length cpus.items ≡ P }
         requires inboxes { length inboxes.items ≡ P }
-        requires orderly { IsOrderly (record { processors = cpus.items; inboxes = inboxes.items; lobby = lobby; drawn = drawn }) }
-        ensures { result ≡ record { processors = cpus.items; inboxes = inboxes.items; lobby = lobby; drawn = drawn } }
+        requires orderly { IsOrderly (world_of_parts cpus.items inboxes.items lobby drawn) }
+        ensures { result ≡ world_of_parts cpus.items inboxes.items lobby drawn }
     {
         Core {
             world: DynamicCore::from_parts(cpus, inboxes, lobby, drawn),
@@ -92,7 +90,7 @@ impl<Q: RunQueue, const P: usize> Core<Q, P> {
         event: Event,
         board: &mut B,
     ) -> Result<Reply, Refusal>
-        ensures step { (calls : List CounterCall) × WorldStep (by_programs Q.R.discipline) self.old event calls result self.new × Through B.leads board.old calls board.new }
+        ensures step { StepsOn (by_programs Q.R.discipline) B.leads self.old board.old event result self.new board.new }
         ensures orderly { IsOrderly self.new }
     {
         self.world.step(alloc, event, board)

@@ -4,7 +4,7 @@ ghost use Rattle.bq_bpf.specs.Counters.{Through};
 ghost use Rattle.bq_parts.specs.Choices.{by_programs};
 ghost use Rattle.bq_parts.specs.Orderly.{IsOrderly};
 ghost use Rattle.bq_parts.specs.Steps.{WorldStep};
-ghost use Rattle.bq_parts.specs.World.{opening_world, processor_at, count_in};
+ghost use Rattle.bq_parts.specs.World.{opening_world, world_of_parts, processor_at, count_in};
 
 use crate::arguments::argument_refusal;
 use bq_bpf::Board;
@@ -68,7 +68,7 @@ impl<Q: RunQueue> WorldParts<Q> {
     ) -> WorldParts<Q>
         requires few { length cpus.items ≤ PROCESSORS }
         requires inboxes { length inboxes.items ≡ length cpus.items }
-        ensures { result ≡ record { processors = cpus.items; inboxes = inboxes.items; lobby = lobby; drawn = drawn } }
+        ensures { result ≡ world_of_parts cpus.items inboxes.items lobby drawn }
     {
         // Reading the lobby brings into the proof that it has an entry for each id.
         let _entries = &lobby;

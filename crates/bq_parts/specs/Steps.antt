@@ -77,6 +77,10 @@ abbrev pub ThroughAll : {B : Type 0} → (B → CounterCall → B → Type 0) �
 ThroughAll leads old [] new = new ≡ old
 ThroughAll {B} leads old (calls ∷ more) new = (mid : B) × Through leads old calls mid × ThroughAll leads mid more new
 
+-- with this answer the event leads from the one world to the other, and its calls of counters from the one board to the other
+abbrev pub StepsOn : {B : Type 0} → PolicySemantics → (B → CounterCall → B → Type 0) → World → B → Event → Result Reply Refusal → World → B → Type 0
+StepsOn s leads w board e answer w' board' = (calls : List CounterCall) × WorldStep s w e calls answer w' × Through leads board calls board'
+
 -- with these answers the events lead from the one world to the other, and from the one board to the other
 abbrev pub RunsOn : {B : Type 0} → PolicySemantics → (B → CounterCall → B → Type 0) → World → B → List Event → List (Result Reply Refusal) → World → B → Type 0
 RunsOn s leads w board es answers w' board' = (calls : List (List CounterCall)) × WorldRun s w es calls answers w' × ThroughAll leads board calls board'

@@ -19,6 +19,10 @@ pub record World : Type 0 where
 abbrev pub opening_world : ℕ → World
 opening_world count = record { processors = replicate count new_processor; inboxes = replicate count []; lobby = replicate TASKS Absent; drawn = 0 }
 
+-- the world that these parts make: processors, their inboxes, a lobby, and how many numbers were drawn
+abbrev pub world_of_parts : List Processor → List (List Task) → List LobbyEntry → ℕ → World
+world_of_parts processors inboxes lobby drawn = record { processors = processors; inboxes = inboxes; lobby = lobby; drawn = drawn }
+
 -- how many processors a world has
 abbrev pub count_in : World → ℕ
 count_in w = length w.processors
