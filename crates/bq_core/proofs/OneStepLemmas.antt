@@ -26,7 +26,7 @@ use Rattle.bq_parts.specs.declared.reply.Reply.{Reply}
 use Rattle.bq_parts.specs.declared.refusal.Refusal.{Refusal}
 use Rattle.bq_parts.specs.declared.lobby_entry.LobbyEntry.{LobbyEntry}
 use Rattle.bq_parts.specs.declared.lobby_entry.LobbyEntry.TheVariants.{Sleeping}
-use Rattle.bq_parts.specs.declared.wakes.Placement.{Placement}
+use Rattle.bq_parts.specs.declared.waking.Placement.{Placement}
 use Rattle.bq_parts.specs.Processors.{Processor, size_of}
 use Rattle.bq_parts.specs.World.{World}
 use Rattle.bq_parts.specs.Refusals.{refusal}

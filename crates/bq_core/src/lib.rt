@@ -4,11 +4,11 @@
 //! Builds on bq_parts, whose calls are what each event does to the parts that it touches.
 #![tactic(auto)]
 
-mod admitting;
 mod arguments;
 mod dynamic_core;
 mod generations;
 pub mod laws;
+mod lobby_events;
 mod pulling;
 mod running;
 mod sized_core;

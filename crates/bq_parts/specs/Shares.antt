@@ -12,7 +12,7 @@ use Rattle.bq_parts.specs.declared.refusal.Refusal.{Refusal}
 use Rattle.bq_parts.specs.declared.refusal.Refusal.TheVariants as no
 use Rattle.bq_parts.specs.Processors.{Processor, new_processor}
 use Rattle.bq_parts.specs.declared.carried.Carried.{Carried}
-use Rattle.bq_parts.specs.declared.wakes.Placement.{Placement}
+use Rattle.bq_parts.specs.declared.waking.Placement.{Placement}
 use Rattle.bq_parts.specs.Refusals.{is_absent, retire_refusal, begin_refusal, generation_refusal}
 use Rattle.bq_hooks.specs.declared.hook.Hook.{Hook}
 use Rattle.bq_installed.specs.Installed.{InstalledFacts, at_hook, with_installed}

@@ -10,7 +10,7 @@ use Rattle.bq_parts.specs.declared.reply.Reply.{Reply}
 use Rattle.bq_parts.specs.declared.reply.Reply.TheVariants.{Drawn, Placed}
 use Rattle.bq_parts.specs.declared.refusal.Refusal.{Refusal}
 use Rattle.bq_parts.specs.declared.refusal.Refusal.TheVariants as no
-use Rattle.bq_parts.specs.declared.wakes.Placement.{Placement}
+use Rattle.bq_parts.specs.declared.waking.Placement.{Placement}
 use Rattle.bq_parts.specs.Processors.{Processor}
 use Rattle.bq_parts.specs.World.{World, processor_at, inbox, count_in, with_processor, with_inbox, with_lobby, loads_of}
 use Rattle.bq_disc.specs.Counts.{saturating_sum}

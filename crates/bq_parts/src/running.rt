@@ -1,6 +1,4 @@
-//! What a tick, a drain and a block do to the parts that they touch: one processor, its inbox, the lobby. The shares of
-//! an admission and a retirement are in `lobby`, of a wake in `wakes`, of a pull in `pulls`, of an installation in
-//! `installing`.
+//! What a tick, a drain and a block do to the parts that they touch: one processor, its inbox, the lobby.
 ghost use Rattle.std.specs.Prelude.{◌≡◌, ◌++◌, []};
 ghost use Rattle.bq_bpf.specs.Counters.{Through};
 ghost use Rattle.bq_disc.specs.OneProcessor.{present_at};
