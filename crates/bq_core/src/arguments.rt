@@ -9,7 +9,7 @@ use bq_installed::Policy;
 use bq_parts::{Event, Refusal};
 use bq_weights::is_nice;
 
-/// Why an event is refused for its arguments, in any world of this many processors. If there are several reasons, this is
+/// Returns why an event is refused for its arguments, in any world of this many processors. If there are several reasons, this is
 /// the one of least number.
 pub fn argument_refusal(count: usize, event: &Event) -> Option<Refusal>
     requires { count ≤ PROCESSORS }

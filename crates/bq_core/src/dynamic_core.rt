@@ -36,7 +36,7 @@ impl<Q: RunQueue> Model for DynamicCore<Q> {
 }
 
 impl<Q: RunQueue + Drop> DynamicCore<Q> {
-    /// The opening world of this many processors, in which nothing is admitted, drawn or installed. It takes all the memory
+    /// Makes the opening world of this many processors, in which nothing is admitted, drawn or installed. It takes all the memory
     /// that later events need, except for Admit and Install.
     pub fn new(alloc: Global, count: usize) -> Result<DynamicCore<Q>, AllocError>
         requires few { count ≤ PROCESSORS }
@@ -52,7 +52,7 @@ impl<Q: RunQueue + Drop> DynamicCore<Q> {
 }
 
 impl<Q: RunQueue> DynamicCore<Q> {
-    /// The world that these parts make, if they are in order. It takes no memory.
+    /// Makes a world of these parts, which are in order. It takes no memory.
     pub(crate) fn from_parts(
         cpus: Vec<Cpu<Q>>,
         inboxes: Vec<Inbox>,
@@ -164,7 +164,7 @@ impl<Q: RunQueue> DynamicCore<Q> {
         }
     }
 
-    /// A processor. Its number must be below the number of processors.
+    /// Lends the processor with this number, to be read. The number must be below the number of processors.
     pub fn cpu(&self, number: u8) -> &Cpu<Q>
         requires { number < count_in self.now }
         ensures { result.now ≡ processor_at self.now number }
@@ -172,7 +172,7 @@ impl<Q: RunQueue> DynamicCore<Q> {
         self.parts.cpu(number)
     }
 
-    /// How many processors there are.
+    /// Counts the processors.
     pub fn processors(&self) -> usize
         ensures value { result ≡ count_in self.now }
         ensures few { result ≤ PROCESSORS }

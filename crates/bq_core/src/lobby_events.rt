@@ -12,7 +12,7 @@ use bq_parts::{Event, Refusal, Reply, new_task};
 use std::alloc::Global;
 
 impl<Q: RunQueue> WorldParts<Q> {
-    /// A new task enters the lobby. It takes memory for the task.
+    /// Puts a new task into the lobby. It takes memory for the task.
     #[inline(never)]
     pub(crate) fn admit(
         &mut self,
@@ -31,7 +31,7 @@ impl<Q: RunQueue> WorldParts<Q> {
         self.lobby.admit(task, new)
     }
 
-    /// A task leaves the lobby for good.
+    /// Removes a task from the lobby for good.
     #[inline(never)]
     pub(crate) fn retire(&mut self, task: u16) -> Result<Reply, Refusal>
         requires below { task < TASKS }

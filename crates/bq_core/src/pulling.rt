@@ -17,7 +17,7 @@ use bq_installed::Scratch;
 use bq_parts::{Cpu, Event, Refusal, Reply};
 
 impl<Q: RunQueue> WorldParts<Q> {
-    /// A processor takes a task from the queue of another: the one that its policy names, or that of the discipline, which
+    /// Moves a task to a processor from the queue of another: the one that its policy names, or that of the discipline, which
     /// takes one only if the other has at least two more.
     #[inline(never)]
     pub(crate) fn pull<B: Board>(
@@ -41,7 +41,7 @@ impl<Q: RunQueue> WorldParts<Q> {
     }
 }
 
-/// One of some processors takes a task from the queue of another.
+/// Moves a task to one of these processors from the queue of another.
 fn pull_between<Q: RunQueue, B: Board>(
     cpus: &mut [Cpu<Q>],
     processor: u8,

@@ -13,7 +13,7 @@ use bq_installed::Scratch;
 use bq_parts::{Event, Refusal, Reply};
 
 impl<Q: RunQueue> WorldParts<Q> {
-    /// The clock of a processor ticks.
+    /// Lets the clock of a processor tick: charges the running task, and decides who runs.
     pub(crate) fn tick<B: Board>(
         &mut self,
         processor: u8,
@@ -31,7 +31,7 @@ impl<Q: RunQueue> WorldParts<Q> {
         Ok(cpu.tick(processor, now, scratch, board))
     }
 
-    /// All tasks that were placed on a processor enter its queue.
+    /// Lets all tasks that were placed on a processor enter its queue, and decides who runs.
     pub(crate) fn drain<B: Board>(
         &mut self,
         processor: u8,
@@ -50,7 +50,7 @@ impl<Q: RunQueue> WorldParts<Q> {
         Ok(cpu.drain(inbox, processor, now, scratch, board))
     }
 
-    /// The running task of a processor goes to the lobby.
+    /// Puts the running task of a processor into the lobby, and starts the queue's choice.
     pub(crate) fn block(&mut self, processor: u8, now: u64) -> Result<Reply, Refusal>
         requires orderly { IsOrderly self.old }
         requires inside { processor < count_in self.old }

@@ -34,8 +34,8 @@ impl<Q: RunQueue, const P: usize> Model for Core<Q, P> {
 }
 
 impl<Q: RunQueue + Drop, const P: usize> Core<Q, P> {
-    /// The opening world, in which nothing is admitted, drawn or installed. Allocates all that later events need, except for
-    /// Admit and Install.
+    /// Makes the opening world, in which nothing is admitted, drawn or installed. It takes all the memory that later events need,
+    /// except for Admit and Install.
     pub fn new(alloc: Global) -> Result<Core<Q, P>, AllocError>
         requires few { P ≤ PROCESSORS }
         ensures opening { IfOk result (λ c. c ≡ opening_world P) }
@@ -48,7 +48,7 @@ impl<Q: RunQueue + Drop, const P: usize> Core<Q, P> {
 }
 
 impl<Q: RunQueue, const P: usize> Core<Q, P> {
-    /// The world that these parts make, if they are in order. It takes no memory.
+    /// Makes a world of these parts, which are in order. It takes no memory.
     pub fn from_parts(
         cpus: Vec<Cpu<Q>>,
         inboxes: Vec<Inbox>,
@@ -133,7 +133,7 @@ impl<Q: RunQueue, const P: usize> Core<Q, P> {
         self.world.run(alloc, events, board)
     }
 
-    /// A processor. Its number must be below the number of processors.
+    /// Lends the processor with this number, to be read. The number must be below the number of processors.
     pub fn cpu(&self, number: u8) -> &Cpu<Q>
         requires { number < count_in self.now }
         ensures { result.now ≡ processor_at self.now number }
@@ -141,7 +141,7 @@ impl<Q: RunQueue, const P: usize> Core<Q, P> {
         self.world.cpu(number)
     }
 
-    /// How many processors there are.
+    /// Counts the processors.
     pub fn processors(&self) -> usize
         ensures value { result ≡ count_in self.now }
         ensures few { result ≤ PROCESSORS }

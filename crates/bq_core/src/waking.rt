@@ -16,7 +16,7 @@ use bq_installed::Scratch;
 use bq_parts::{Cpu, Event, Inbox, Placement, Refusal, Reply};
 
 impl<Q: RunQueue> WorldParts<Q> {
-    /// A sleeping task comes into the hand of a processor, with the loads of that moment.
+    /// Takes a sleeping task into the hand of a processor, with the loads of that moment.
     #[inline(never)]
     pub(crate) fn begin_wake(&mut self, processor: u8, task: u16) -> Result<Reply, Refusal>
         requires orderly { IsOrderly self.old }
@@ -66,7 +66,7 @@ impl<Q: RunQueue> WorldParts<Q> {
     }
 }
 
-/// The load of each processor.
+/// Counts the load of each processor.
 fn loads_of<Q: RunQueue>(cpus: &[Cpu<Q>], inboxes: &[Inbox]) -> Loads
     requires same { length cpus.now ≡ length inboxes.now }
     requires few { length cpus.now ≤ PROCESSORS }

@@ -37,7 +37,7 @@ impl<Q: RunQueue> Model for WorldParts<Q> {
 }
 
 impl<Q: RunQueue + Drop> WorldParts<Q> {
-    /// The opening world. It takes all the memory that later events need, except for Admit and Install.
+    /// Makes the opening world. It takes all the memory that later events need, except for Admit and Install.
     pub fn new(alloc: Global, count: usize) -> Result<WorldParts<Q>, AllocError>
         requires few { count ≤ PROCESSORS }
         ensures { IfOk result (λ w. w ≡ opening_world count) }
@@ -59,7 +59,7 @@ impl<Q: RunQueue + Drop> WorldParts<Q> {
 }
 
 impl<Q: RunQueue> WorldParts<Q> {
-    /// The world that these parts make.
+    /// Makes the world of these parts.
     pub(crate) fn of(
         cpus: Vec<Cpu<Q>>,
         inboxes: Vec<Inbox>,
@@ -80,7 +80,7 @@ impl<Q: RunQueue> WorldParts<Q> {
         }
     }
 
-    /// A processor.
+    /// Lends the processor with this number, to be read.
     pub fn cpu(&self, number: u8) -> &Cpu<Q>
         requires { number < count_in self.now }
         ensures { result.now ≡ processor_at self.now number }
@@ -88,7 +88,7 @@ impl<Q: RunQueue> WorldParts<Q> {
         &self.cpus[usize::from(number)]
     }
 
-    /// How many processors there are.
+    /// Counts the processors.
     pub fn processors(&self) -> usize
         ensures value { result ≡ count_in self.now }
         ensures few { result ≤ PROCESSORS }

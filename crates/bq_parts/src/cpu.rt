@@ -23,8 +23,8 @@ use bq_hooks::Hook;
 use bq_installed::{Hooks, Installed};
 use std::marker::Model;
 
-/// A processor. A call whose contract has a clause `share` is the processor's share of an event. The other calls make a processor,
-/// only read one, or are pieces of such calls.
+/// One processor of the world. A call whose contract has a clause `share` does the processor's share of an event. The other calls
+/// make a processor, only read one, or are pieces of such calls.
 #[derive(Drop)]
 pub struct Cpu<Q: RunQueue> {
     pub(crate) queue: Q,
@@ -47,7 +47,7 @@ impl<Q: RunQueue> Model for Cpu<Q> {
     ghost invariant = { λ c. c.last_reading ≤ LATEST };
 }
 
-/// The node of the running task.
+/// Returns the node of the running task, or `None` if no task runs.
 fn node_of(current: &Option<Unlinked>) -> Option<&Node>
     ensures { option_map (λ n. task_of n.now) result ≡ current.now }
 {
@@ -58,7 +58,7 @@ fn node_of(current: &Option<Unlinked>) -> Option<&Node>
 }
 
 impl<Q: RunQueue> Cpu<Q> {
-    /// A processor to which nothing has come, with nothing installed at its hooks.
+    /// Makes a processor to which nothing has come, with nothing installed at its hooks.
     pub fn new() -> Cpu<Q>
         ensures { result ≡ new_processor }
     {
@@ -80,14 +80,14 @@ impl<Q: RunQueue> Cpu<Q> {
         }
     }
 
-    /// The running task.
+    /// Returns the node of the running task, or `None` if no task runs.
     pub fn current(&self) -> Option<&Node>
         ensures { option_map (λ n. task_of n.now) result ≡ self.now.running.current }
     {
         node_of(&self.current)
     }
 
-    /// The id of the running task.
+    /// Returns the id of the running task, or `None` if no task runs.
     pub fn running_id(&self) -> Option<u16>
         ensures { result ≡ id_of self.now.running.current }
     {
@@ -97,14 +97,14 @@ impl<Q: RunQueue> Cpu<Q> {
         }
     }
 
-    /// The mark as it was last computed, in virtual nanoseconds.
+    /// Returns the mark as it was last computed, in virtual nanoseconds.
     pub fn mark(&self) -> u64
         ensures { result ≡ self.now.running.mark }
     {
         self.queue.mark()
     }
 
-    /// The queue's task of least (v, id) above `key`; its task of least (v, id) of all if there is no `key`.
+    /// Returns the queue's task of least (v, id) above `key`, or its task of least (v, id) of all if there is no `key`.
     pub fn after(&self, key: Option<(u64, u16)>) -> Option<&Node>
         ensures task { option_map (λ n. task_of n.now) result ≡ find (follows key) self.now.running.queue }
         ensures rising { IsRising self.now.running.queue }
@@ -113,22 +113,22 @@ impl<Q: RunQueue> Cpu<Q> {
         self.queue.after(key)
     }
 
-    /// The generation of what is installed at a hook; 0 if nothing has been installed.
+    /// Returns the generation of what is installed at a hook, or 0 if nothing has been installed.
     pub fn generation(&self, hook: Hook) -> u64
         ensures { result ≡ (at_hook hook self.now.hooks).generation }
     {
         self.hooks.generation(hook)
     }
 
-    /// The last answer of the policy at a hook, with its steps: some run of the policy gives it. `None` if it has not been
-    /// asked since it was installed.
+    /// Returns the last answer of the policy at a hook, with its steps: some run of the policy gives it. Returns `None` if the policy
+    /// has not been asked since it was installed.
     pub fn answered(&self, hook: Hook) -> Option<RunResult>
         ensures { WasAnswered (at_hook hook self.now.hooks).policy result }
     {
         self.hooks.answered(hook)
     }
 
-    /// How many tasks run or wait in the queue.
+    /// Counts the tasks that run or wait in the queue.
     pub fn size(&self) -> usize
         requires { size_of self.now < 2 ^ 32 }
         ensures { result ≡ size_of self.now }
@@ -139,7 +139,7 @@ impl<Q: RunQueue> Cpu<Q> {
         }
     }
 
-    /// How many tasks run or wait here, those of the inbox included.
+    /// Counts the tasks that run or wait here, those of the inbox included.
     pub fn load(&self, inbox: &Inbox) -> u32
         requires few { load_of self.now inbox.now < 2 ^ 32 }
         ensures { result ≡ load_of self.now inbox.now }
@@ -217,7 +217,7 @@ impl<Q: RunQueue> Cpu<Q> {
         enter_chain(&mut self.queue, tasks);
     }
 
-    /// The current task goes to sleep and leaves the processor, whose number is `processor`.
+    /// Takes the running task, if any, from the processor, whose number is `processor`. The task goes to sleep.
     pub fn leave(&mut self, processor: u8) -> Option<Unlinked>
         ensures task { result ≡ option_map (λ t. record (left_at self.old.running.mark t) { prev = Some processor }) self.old.running.current }
         ensures left { self.new ≡ record self.old { running = record self.old.running { current = None } } }
@@ -231,7 +231,7 @@ impl<Q: RunQueue> Cpu<Q> {
         Some(Unlinked::new(node))
     }
 
-    /// The task that the discipline would move to a processor with `size` tasks.
+    /// Returns the id of the task that the discipline would move to a processor with `size` tasks, or `None` if it would move none.
     pub fn own_pull(&self, processor: u8, size: usize) -> Option<u16>
         requires inside { processor < PROCESSORS }
         requires few { size_of self.now < 2 ^ 32 }
@@ -240,7 +240,7 @@ impl<Q: RunQueue> Cpu<Q> {
         self.queue.own_pull(processor, size, self.size())
     }
 
-    /// The task with this id, if any, leaves the queue for another processor's.
+    /// Takes the task with this id, if any, out of the queue, for another processor's.
     pub fn give(&mut self, task: Option<u16>) -> Option<Unlinked>
         ensures task { result ≡ taken_from self.old.running task }
         ensures rest { self.new ≡ record self.old { running = without_task self.old.running task } }
@@ -267,7 +267,7 @@ impl<Q: RunQueue> Cpu<Q> {
         }
     }
 
-    /// Whether the hand has a task.
+    /// Returns true if the hand has a task.
     pub fn has_in_hand(&self) -> bool
         ensures { result ≡ is_some self.now.hand }
     {

@@ -23,7 +23,7 @@ use bq_hooks::{Hook, Version, own_place, settle_place, settle_preempt, settle_pu
 use bq_installed::Scratch;
 
 impl<Q: RunQueue> Cpu<Q> {
-    /// What a policy may ask at this processor: the last reading of its clock, and its number.
+    /// Returns what a policy may ask at this processor: the last reading of its clock, in nanoseconds, and its number.
     fn env(&self, processor: u8) -> Env
         ensures { result ≡ record { now = self.now.running.last; processor = processor } }
     {

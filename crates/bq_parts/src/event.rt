@@ -44,7 +44,7 @@ pub enum Event {
         processor: u8,
         now: u64,
     },
-    /// The clock ticks.
+    /// The clock of a processor ticks: time is charged, and it is decided who runs.
     Tick {
         processor: u8,
         now: u64,

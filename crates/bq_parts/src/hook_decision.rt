@@ -19,7 +19,7 @@ impl<T: Copy> Clone for HookDecision<T> {
 }
 
 impl<T> HookDecision<T> {
-    /// The discipline's own choice as a decision, with no policy asked.
+    /// Makes a decision of the discipline's own choice, with no policy asked.
     #[inline(always)]
     pub(crate) fn unasked(choice: T) -> HookDecision<T>
         ensures { result ≡ record { choice = choice; by = By.Discipline; steps = 0 } }
@@ -31,7 +31,7 @@ impl<T> HookDecision<T> {
         }
     }
 
-    /// A choice as a decision, after a policy took this many steps.
+    /// Makes a decision of a choice, after a policy took this many steps.
     #[inline(always)]
     pub(crate) fn after(chosen: Choice<T>, steps: u32) -> HookDecision<T>
         ensures { result ≡ record { choice = chosen.value; by = chosen.by; steps = steps } }

@@ -31,14 +31,14 @@ impl Model for Inbox {
 }
 
 impl Inbox {
-    /// An inbox without tasks.
+    /// Makes an inbox without tasks.
     pub fn new() -> Inbox
         ensures { result ≡ [] }
     {
         Inbox { last: None, len: 0 }
     }
 
-    /// How many tasks are in the inbox.
+    /// Counts the tasks in the inbox.
     pub fn len(&self) -> u32
         ensures { result ≡ length self.now }
     {

@@ -29,7 +29,7 @@ impl<Q: RunQueue> Cpu<Q> {
     }
 }
 
-/// Why a generation is refused at a hook, if it is: `newest` is the one at the hook, and `drawn` numbers were drawn so far.
+/// Returns why a generation is refused at a hook, if it is: `newest` is the one at the hook, and `drawn` numbers were drawn so far.
 fn generation_refusal(newest: u64, drawn: u64, generation: u64) -> Option<Refusal>
     ensures { result ≡ generation_refusal newest drawn generation }
 {

@@ -12,7 +12,7 @@ use bq_disc::mask::low_bits;
 use std::alloc::{AllocError, Global};
 use std::marker::Model;
 
-/// An entry for each id, so that a task is found by its id at once.
+/// The place of the sleeping tasks: an entry for each id, so that a task is found by its id at once.
 #[derive(Drop)]
 pub struct Lobby {
     entries: Vec<LobbyEntry>,
@@ -31,7 +31,7 @@ impl Model for Lobby {
 }
 
 impl Lobby {
-    /// Takes the memory for all entries.
+    /// Makes a lobby in which no id is admitted. It takes the memory for all entries.
     pub fn new(alloc: Global) -> Result<Lobby, AllocError>
         ensures { IfOk result (λ l. l ≡ replicate TASKS Absent) }
     {
@@ -42,7 +42,7 @@ impl Lobby {
         Ok(Lobby { entries })
     }
 
-    /// A new task enters the lobby.
+    /// Puts a new task into the lobby. Refuses if its id is admitted already.
     pub fn admit(&mut self, id: u16, task: Unlinked) -> Result<Reply, Refusal>
         requires below { id < TASKS }
         ensures share { Admits id task self.old result self.new }
@@ -54,7 +54,7 @@ impl Lobby {
         Ok(Reply::Admitted)
     }
 
-    /// A sleeping task leaves the lobby for good.
+    /// Removes a sleeping task from the lobby for good. Refuses if there is no such task, or if it does not sleep.
     pub fn retire(&mut self, id: u16) -> Result<Reply, Refusal>
         requires below { id < TASKS }
         ensures share { Retires id self.old result self.new }
@@ -69,7 +69,7 @@ impl Lobby {
         Ok(Reply::Retired)
     }
 
-    /// Whether this id is not admitted.
+    /// Returns true if this id is not admitted.
     pub fn is_absent(&self, id: u16) -> bool
         requires { id < TASKS }
         ensures { result ≡ is_absent (slice_index_or self.now id Absent) }
@@ -77,7 +77,7 @@ impl Lobby {
         matches!(self.entries[usize::from(id)], LobbyEntry::Absent)
     }
 
-    /// Whether the task with this id is with a processor.
+    /// Returns true if the task with this id is with a processor.
     pub fn is_away(&self, id: u16) -> bool
         requires { id < TASKS }
         ensures { result ≡ is_away (slice_index_or self.now id Absent) }
@@ -116,7 +116,7 @@ impl Lobby {
     }
 }
 
-/// A task as it is admitted in a world of `count` processors. It takes memory for the task.
+/// Makes a task as it is admitted in a world of `count` processors. It takes memory for the task. `slice` is in nanoseconds.
 pub fn new_task(
     alloc: Global,
     count: usize,

@@ -15,7 +15,7 @@ use bq_disc::limits::PROCESSORS;
 use bq_installed::Scratch;
 
 impl<Q: RunQueue> Cpu<Q> {
-    /// The processor takes a task from the queue of another. It is the task that its policy names, if that is permitted;
+    /// Takes a task from the queue of another processor. It is the task that its policy names, if that is permitted;
     /// otherwise it is that of the discipline, which takes one only if the other has at least two more tasks. `processor` is
     /// the number of `self`, and `from` that of `source`.
     pub fn pull<B: Board>(
@@ -46,8 +46,8 @@ impl<Q: RunQueue> Cpu<Q> {
         }
     }
 
-    /// The task with this id, if any, comes here from the other's queue. If nothing runs here then, the queue's choice
-    /// starts to run. Returns who runs here.
+    /// Takes the task with this id, if any, from the other's queue. If nothing runs here then, starts the queue's choice. Returns
+    /// the id of the task that runs here.
     fn take_task(&mut self, source: &mut Cpu<Q>, task: Option<u16>) -> Option<u16>
         requires fresh { IfSome (taken_from source.old.running task) (λ t. find_task t.id self.old.running.queue ≡ None) }
         ensures run { result ≡ id_of self.new.running.current }

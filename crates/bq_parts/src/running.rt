@@ -12,7 +12,7 @@ use bq_disc::RunQueue;
 use bq_installed::Scratch;
 
 impl<Q: RunQueue> Cpu<Q> {
-    /// The clock of the processor ticks.
+    /// Does the share of a tick: charges the running task for the time up to `now`, and decides who runs.
     pub fn tick<B: Board>(
         &mut self,
         processor: u8,
@@ -35,7 +35,7 @@ impl<Q: RunQueue> Cpu<Q> {
         }
     }
 
-    /// All tasks of the processor's inbox enter its queue, and it is decided who runs.
+    /// Does the share of a drain: lets all tasks of the inbox enter the queue, and decides who runs.
     pub fn drain<B: Board>(
         &mut self,
         inbox: &mut Inbox,
@@ -64,7 +64,7 @@ impl<Q: RunQueue> Cpu<Q> {
         }
     }
 
-    /// The processor's running task goes to the lobby, and the queue's choice runs.
+    /// Does the share of a block: puts the running task into the lobby, and starts the queue's choice. Refuses if no task runs.
     pub fn block(&mut self, lobby: &mut Lobby, processor: u8, now: u64) -> Result<Reply, Refusal>
         requires { HasIdsBelowTasks (present_at self.old.running) }
         ensures share { Blocks Q.R.discipline processor now self.old lobby.old result self.new lobby.new }

@@ -26,7 +26,7 @@ impl Model for Unlinked {
 }
 
 impl Unlinked {
-    /// The task of a node that is linked to no other.
+    /// Makes a task of its node, which is linked to no other.
     pub fn new(node: Box<Node>) -> Unlinked
         requires { IsLone node.value }
         ensures { result ≡ task_of node.value }
@@ -34,7 +34,7 @@ impl Unlinked {
         Unlinked { node }
     }
 
-    /// The task's node, to be linked.
+    /// Gives up the task's node, so that it can be linked.
     pub fn into_node(self) -> Box<Node>
         ensures task { task_of result.value ≡ self }
         ensures lone { IsLone result.value }
@@ -42,14 +42,14 @@ impl Unlinked {
         self.node
     }
 
-    /// The task's node.
+    /// Lends the task's node, to be read.
     pub fn node(&self) -> &Node
         ensures { task_of result.now ≡ self.now }
     {
         &self.node
     }
 
-    /// The task's id.
+    /// Returns the task's id.
     pub fn id(&self) -> u16
         ensures { result ≡ self.now.id }
     {

@@ -23,7 +23,8 @@ pub struct Placement {
 }
 
 impl<Q: RunQueue> Cpu<Q> {
-    /// A sleeping task goes from the lobby into the hand, with a copy of these loads.
+    /// Takes a sleeping task from the lobby into the hand, with a copy of these loads. Refuses if there is no such task, if it does
+    /// not sleep, or if the hand is full.
     pub fn begin_wake(
         &mut self,
         lobby: &mut Lobby,
@@ -36,7 +37,8 @@ impl<Q: RunQueue> Cpu<Q> {
         self.begin_wake_with_loads(lobby, task, loads.copy())
     }
 
-    /// A sleeping task goes from the lobby into the hand, with loads that were counted only for this wake.
+    /// Takes a sleeping task from the lobby into the hand, with loads that were counted only for this wake. Refuses as
+    /// [`begin_wake`](Cpu::begin_wake) does.
     pub fn begin_wake_with_loads(
         &mut self,
         lobby: &mut Lobby,
@@ -63,7 +65,7 @@ impl<Q: RunQueue> Cpu<Q> {
         Ok(Reply::Begun { task, loads })
     }
 
-    /// The task in the hand leaves it, and a processor for it is chosen among the first `count`.
+    /// Takes the task out of the hand, and chooses a processor for it among the first `count`. Returns `None` if the hand is empty.
     pub fn end_wake<B: Board>(
         &mut self,
         processor: u8,
