@@ -21,9 +21,9 @@ use Rattle.bq_schedule.specs.Passing.{figures_read, processor_read}
 use Rattle.bq_schedule.specs.Runnable.{figures_left, comes}
 use Rattle.bq_schedule.specs.Running.{running_task, figures_switched}
 use Rattle.bq_schedule.specs.Slices.{Sight, sight, sight_of, clock_after, clock, runner_after, runner}
-use Rattle.bq_schedule.specs.Steps.{figures_asked, figures_taken, emptied, figures_decided, placed, blocked, figures_pulled, performed, time_at, is_there, figures_after, figures}
+use Rattle.bq_schedule.specs.Steps.{figures_counted, figures_taken, emptied, figures_decided, placed, blocked, figures_pulled, performed, time_at, is_there, figures_after, figures}
 use Rattle.bq_schedule.specs.Laws.{IsSightWithin, IsOfProcessors}
-use Rattle.bq_schedule.proofs.FrameLemmas.{Works, KeepsWorks, KeepsRunning, RunsAs, works-then, works-id, works-with_task, works-with_processor, works-asked, works-leaves, works-comes, works-taken, works-switched, running-then, running-id, running-with_task, running-with_processor, running-asked, running-leaves, running-comes, running-taken, running-read_at, runs-after, runs-before, runs-switched, count-read_at, processors-read_at}
+use Rattle.bq_schedule.proofs.FrameLemmas.{Works, KeepsWorks, KeepsRunning, RunsAs, works-then, works-id, works-with_task, works-with_processor, works-counted, works-leaves, works-comes, works-taken, works-switched, running-then, running-id, running-with_task, running-with_processor, running-counted, running-leaves, running-comes, running-taken, running-read_at, runs-after, runs-before, runs-switched, count-read_at, processors-read_at}
 
 -- what a reply does: the clock is read that it shows, and nothing else of the works changes; and it runs who it says
 abbrev pub Shows : Figures → Figures → Option Sight → Type 0
@@ -35,12 +35,12 @@ shows-placed : (processor now : ℕ) (d : Decision) (id to : ℕ) (s : Figures)
     → Shows s (placed processor now d id to s) (Some (record { processor = processor; now = now; run = None }))
 shows-placed processor now d id to s =
     let r = figures_read processor now s in
-    let a = figures_asked processor d r in
+    let a = figures_counted processor d r in
     let at = time_at processor now s in
     let c = comes id to at a in (
-      works-then r a _ (works-asked processor d r) (works-then a c _ (works-comes id to at a) (works-with_task c id _ refl)),
+      works-then r a _ (works-counted processor d r) (works-then a c _ (works-comes id to at a) (works-with_task c id _ refl)),
       running-then s r _ (running-read_at processor now s)
-          (running-then r a _ (running-asked processor d r) (running-then a c _ (running-comes id to at a) (running-with_task c id _))),
+          (running-then r a _ (running-counted processor d r) (running-then a c _ (running-comes id to at a) (running-with_task c id _))),
     )
 
 shows-decided : (processor now : ℕ) (d : Decision) (run : Option ℕ) (s : Figures)
@@ -48,12 +48,12 @@ shows-decided : (processor now : ℕ) (d : Decision) (run : Option ℕ) (s : Fig
     → Shows s (figures_decided processor now d run s) (Some (record { processor = processor; now = now; run = Some run }))
 shows-decided processor now d run s inside =
     let r = figures_read processor now s in
-    let a = figures_asked processor d r in
+    let a = figures_counted processor d r in
     let at = time_at processor now s in
-    let inside' : processor < length a.processors = omega (arith, count-read_at processor now s, (works-asked processor d r).count) in (
-      works-then r a _ (works-asked processor d r) (works-switched Preempted processor at run a),
+    let inside' : processor < length a.processors = omega (arith, count-read_at processor now s, (works-counted processor d r).count) in (
+      works-then r a _ (works-counted processor d r) (works-switched Preempted processor at run a),
       runs-after (Some run) processor s a (figures_switched Preempted processor at run a)
-          (running-then s r a (running-read_at processor now s) (running-asked processor d r))
+          (running-then s r a (running-read_at processor now s) (running-counted processor d r))
           (runs-switched Preempted processor at run a inside'),
     )
 
@@ -76,16 +76,16 @@ shows-pulled : (processor now : ℕ) (d : Decision) (task run : Option ℕ) (s :
     → Shows s (figures_pulled processor now d task run s) (Some (record { processor = processor; now = now; run = Some run }))
 shows-pulled processor now d task run s inside =
     let r = figures_read processor now s in
-    let a = figures_asked processor d r in
+    let a = figures_counted processor d r in
     let at = time_at processor now s in
     let k = figures_taken processor at task a in
     let inside' : processor < length k.processors =
-    omega (arith, count-read_at processor now s, (works-asked processor d r).count, (works-taken processor at task a).count) in (
-      works-then r a _ (works-asked processor d r)
+    omega (arith, count-read_at processor now s, (works-counted processor d r).count, (works-taken processor at task a).count) in (
+      works-then r a _ (works-counted processor d r)
           (works-then a k _ (works-taken processor at task a) (works-switched Preempted processor at run k)),
       runs-after (Some run) processor s k (figures_switched Preempted processor at run k)
           (running-then s r k (running-read_at processor now s)
-          (running-then r a k (running-asked processor d r) (running-taken processor at task a)))
+          (running-then r a k (running-counted processor d r) (running-taken processor at task a)))
           (runs-switched Preempted processor at run k inside'),
     )
 

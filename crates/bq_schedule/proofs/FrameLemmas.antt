@@ -17,7 +17,7 @@ use Rattle.bq_schedule.specs.Figures.{Figures, unread, unknown, processor_in_fig
 use Rattle.bq_schedule.specs.Passing.{with_charged, figures_read, processor_read}
 use Rattle.bq_schedule.specs.Runnable.{left_from, figures_left, joins, comes}
 use Rattle.bq_schedule.specs.Running.{running_task, stopped, started, begun_if, starts_as, processor_runs, figures_switched, is_run_by, with_latency}
-use Rattle.bq_schedule.specs.Steps.{processor_asked, figures_asked, waited_there, figures_taken}
+use Rattle.bq_schedule.specs.Steps.{processor_counted, figures_counted, waited_there, figures_taken}
 
 -- a place of a list is set to what f cannot tell from what was there
 get_or-set_case : {X Y : Type 0} (f : X → Y) (xs : List X) (i j : ℕ) (y d : X) (b c : Bool) → f y ≡ f (get_or xs i d) →
@@ -58,15 +58,15 @@ abbrev pub works : ProcessorFigures → Works
 works p = record { first = p.first; last = p.last; run = p.run; busy = p.busy; shared = p.shared; unshared = p.unshared }
 
 -- a decision that is counted keeps its processor's works, and who runs there:
-works-processor_asked : (p : ProcessorFigures) (d : Decision) (h : Hook) → works (processor_asked p d h) ≡ works p
-works-processor_asked p d Place = refl
-works-processor_asked p d Preempt = refl
-works-processor_asked p d Pull = refl
+works-processor_counted : (p : ProcessorFigures) (d : Decision) (h : Hook) → works (processor_counted p d h) ≡ works p
+works-processor_counted p d Place = refl
+works-processor_counted p d Preempt = refl
+works-processor_counted p d Pull = refl
 
-running-processor_asked : (p : ProcessorFigures) (d : Decision) (h : Hook) → (processor_asked p d h).running ≡ p.running
-running-processor_asked p d Place = refl
-running-processor_asked p d Preempt = refl
-running-processor_asked p d Pull = refl
+running-processor_counted : (p : ProcessorFigures) (d : Decision) (h : Hook) → (processor_counted p d h).running ≡ p.running
+running-processor_counted p d Place = refl
+running-processor_counted p d Preempt = refl
+running-processor_counted p d Pull = refl
 
 -- what keeps everything of the processors but who runs, what is runnable, and counts
 pub record KeepsWorks (s s' : Figures) : Type 0 where
@@ -117,12 +117,12 @@ pub running-with_task : (s : Figures) (i : ℕ) (t : TaskFigures) → KeepsRunni
 running-with_task s i t = record { at = λ j. refl }
 
 -- a decision that is counted keeps the works
-pub works-asked : (processor : ℕ) (d : Decision) (s : Figures) → KeepsWorks s (figures_asked processor d s)
-works-asked processor d s = works-with_processor s processor _ (works-processor_asked (processor_in_figures s processor) d d.hook)
+pub works-counted : (processor : ℕ) (d : Decision) (s : Figures) → KeepsWorks s (figures_counted processor d s)
+works-counted processor d s = works-with_processor s processor _ (works-processor_counted (processor_in_figures s processor) d d.hook)
 
 -- a decision that is counted keeps who runs
-pub running-asked : (processor : ℕ) (d : Decision) (s : Figures) → KeepsRunning s (figures_asked processor d s)
-running-asked processor d s = running-with_processor s processor _ (running-processor_asked (processor_in_figures s processor) d d.hook)
+pub running-counted : (processor : ℕ) (d : Decision) (s : Figures) → KeepsRunning s (figures_counted processor d s)
+running-counted processor d s = running-with_processor s processor _ (running-processor_counted (processor_in_figures s processor) d d.hook)
 
 -- a task that leaves a processor, or none, keeps the works, and who runs:
 works-left_from : (id : ℕ) (s : Figures) (processor : Option ℕ) → KeepsWorks s (left_from id s processor)

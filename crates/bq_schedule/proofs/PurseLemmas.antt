@@ -13,7 +13,7 @@ use Rattle.bq_schedule.specs.declared.figures.TaskFigures.{TaskFigures}
 use Rattle.bq_schedule.specs.declared.figures.ProcessorFigures.{ProcessorFigures}
 use Rattle.bq_schedule.specs.Figures.{Figures, unread, unknown, processor_in_figures, task_in_figures, figures_with_processor, figures_with_task}
 use Rattle.bq_schedule.specs.Running.{stopped, started, begun_if, starts_as, processor_runs, figures_switched, is_run_by, with_latency}
-use Rattle.bq_schedule.specs.Steps.{processor_asked, figures_asked}
+use Rattle.bq_schedule.specs.Steps.{processor_counted, figures_counted}
 use Rattle.bq_schedule.specs.Slices.{is_this}
 use Rattle.bq_schedule.specs.FairTimes.{weight_there, weights_at}
 use Rattle.bq_schedule.proofs.FrameLemmas.{processor_kept, task_kept, processors-begun_if}
@@ -80,14 +80,14 @@ kept-with_task s i t e =
     record { pots = λ j. refl; purses = λ id. task_kept purse s i id t e; count = refl; tasks = length-set s.tasks i t }
 
 -- a decision that is counted keeps its processor's pot
-pot-processor_asked : (p : ProcessorFigures) (d : Decision) (h : Hook) → pot (processor_asked p d h) ≡ pot p
-pot-processor_asked p d Place = refl
-pot-processor_asked p d Preempt = refl
-pot-processor_asked p d Pull = refl
+pot-processor_counted : (p : ProcessorFigures) (d : Decision) (h : Hook) → pot (processor_counted p d h) ≡ pot p
+pot-processor_counted p d Place = refl
+pot-processor_counted p d Preempt = refl
+pot-processor_counted p d Pull = refl
 
 -- a decision that is counted keeps purses and pots
-pub kept-asked : (processor : ℕ) (d : Decision) (s : Figures) → KeepsPurses s (figures_asked processor d s)
-kept-asked processor d s = kept-with_processor s processor _ (pot-processor_asked (processor_in_figures s processor) d d.hook)
+pub kept-counted : (processor : ℕ) (d : Decision) (s : Figures) → KeepsPurses s (figures_counted processor d s)
+kept-counted processor d s = kept-with_processor s processor _ (pot-processor_counted (processor_in_figures s processor) d d.hook)
 
 -- a latency that is counted keeps the task's purse
 purse-with_latency : (t : TaskFigures) (n : Option ℕ) → purse (with_latency t n) ≡ purse t

@@ -23,10 +23,10 @@ use Rattle.bq_schedule.specs.Passing.{figures_read}
 use Rattle.bq_schedule.specs.Runnable.{figures_left}
 use Rattle.bq_schedule.specs.Running.{stopped, started, starts_as, start_of, stop_of, processor_runs, figures_switched, is_run_by, stop_at, start_at}
 use Rattle.bq_schedule.specs.Slices.{Sight, sight, sight_of, clock, clock_after, runner, runner_after}
-use Rattle.bq_schedule.specs.Steps.{nothing, figures_asked, figures_taken, emptied, figures_decided, blocked, figures_pulled, performed, report_of_answer, time_at, is_there, figures_after, change, figures}
+use Rattle.bq_schedule.specs.Steps.{nothing, figures_counted, figures_taken, emptied, figures_decided, blocked, figures_pulled, performed, report_of_answer, time_at, is_there, figures_after, change, figures}
 use Rattle.bq_schedule.specs.Switches.{why_left}
 use Rattle.bq_schedule.specs.Laws.{IsSightWithin, IsOfProcessors, ReportsStarts, ReportsStops}
-use Rattle.bq_schedule.proofs.FrameLemmas.{KeepsRunning, works-asked, works-leaves, works-taken, works-stopped, processors-begun_if, running-then, running-id, running-with_processor, running-asked, running-leaves, running-taken, running-read_at, runs-switched, who_is, count-read_at}
+use Rattle.bq_schedule.proofs.FrameLemmas.{KeepsRunning, works-counted, works-leaves, works-taken, works-stopped, processors-begun_if, running-then, running-id, running-with_processor, running-counted, running-leaves, running-taken, running-read_at, runs-switched, who_is, count-read_at}
 use Rattle.bq_schedule.proofs.ClockLemmas.{figures-clocks, shows-performed, within-figures, not_below}
 
 -- a switch at a processor: what is reported of it, and what runs afterwards
@@ -92,15 +92,15 @@ ReportsSwitch s s' e (Some x) stop start = ReportsRunning s s' (why_left e) x.pr
 -- a decision, a block and a pull tell the switch that they make:
 decided-reports : (processor now : ℕ) (d : Decision) (run : Option ℕ) (s s' : Figures)
     → processor < length s.processors → KeepsRunning (figures_decided processor now d run s) s'
-    → let t = figures_asked processor d (figures_read processor now s) in
+    → let t = figures_counted processor d (figures_read processor now s) in
     Switches s s' Preempted processor (time_at processor now s) run (stop_at Preempted processor (time_at processor now s) run t)
     (start_at Preempted processor (time_at processor now s) run t)
 decided-reports processor now d run s s' inside k =
     let r = figures_read processor now s in
-    let t = figures_asked processor d r in
+    let t = figures_counted processor d r in
     switch Preempted processor (time_at processor now s) run s t s'
-    (running-then s r t (running-read_at processor now s) (running-asked processor d r))
-    (omega (arith, count-read_at processor now s, (works-asked processor d r).count)) k
+    (running-then s r t (running-read_at processor now s) (running-counted processor d r))
+    (omega (arith, count-read_at processor now s, (works-counted processor d r).count)) k
 
 blocked-reports : (processor now id : ℕ) (run : Option ℕ) (s : Figures)
     → processor < length s.processors
@@ -116,19 +116,19 @@ blocked-reports processor now id run s inside =
 
 pulled-reports : (processor now : ℕ) (d : Decision) (task run : Option ℕ) (s : Figures)
     → processor < length s.processors
-    → let t = figures_taken processor (time_at processor now s) task (figures_asked processor d (figures_read processor now s)) in
+    → let t = figures_taken processor (time_at processor now s) task (figures_counted processor d (figures_read processor now s)) in
     Switches s (figures_pulled processor now d task run s) Preempted processor
     (time_at processor now s) run (stop_at Preempted processor (time_at processor now s) run t)
     (start_at Preempted processor (time_at processor now s) run t)
 pulled-reports processor now d task run s inside =
     let r = figures_read processor now s in
-    let a = figures_asked processor d r in
+    let a = figures_counted processor d r in
     let at = time_at processor now s in
     let t = figures_taken processor at task a in
     switch Preempted processor at run s t (figures_pulled processor now d task run s)
     (running-then s r t (running-read_at processor now s)
-    (running-then r a t (running-asked processor d r) (running-taken processor at task a)))
-    (omega (arith, count-read_at processor now s, (works-asked processor d r).count, (works-taken processor at task a).count))
+    (running-then r a t (running-counted processor d r) (running-taken processor at task a)))
+    (omega (arith, count-read_at processor now s, (works-counted processor d r).count, (works-taken processor at task a).count))
     (running-id (figures_pulled processor now d task run s))
 
 -- each reply tells the switch that it shows, by cases:

@@ -25,10 +25,10 @@ use Rattle.bq_schedule.specs.Passing.{slice_at, slice_length, parts_per_weight, 
 use Rattle.bq_schedule.specs.Runnable.{fair_at, fair_of, figures_left, comes}
 use Rattle.bq_schedule.specs.Running.{figures_switched}
 use Rattle.bq_schedule.specs.Slices.{Sight, sight, sight_of, is_this}
-use Rattle.bq_schedule.specs.Steps.{figures_asked, figures_admitted, waited_there, emptied, figures_taken, placed, figures_decided, blocked, figures_pulled, performed, time_at, is_there, figures_after, figures}
+use Rattle.bq_schedule.specs.Steps.{figures_counted, figures_admitted, waited_there, emptied, figures_taken, placed, figures_decided, blocked, figures_pulled, performed, time_at, is_there, figures_after, figures}
 use Rattle.bq_schedule.specs.FairTimes.{weight_there, weights_at, share, all_fair, all_unshared, all_busy}
 use Rattle.bq_schedule.specs.Laws.{IsSightWithin, IsOfProcessors, SharesOut, AddsUpFairTimes}
-use Rattle.bq_schedule.proofs.FrameLemmas.{Works, KeepsWorks, works-id, works-then, processor_kept, task_kept, works-with_processor, works-with_task, works-asked, works-leaves, works-comes, works-switched, processors-read_at, count-read_at, tasks-read_at}
+use Rattle.bq_schedule.proofs.FrameLemmas.{Works, KeepsWorks, works-id, works-then, processor_kept, task_kept, works-with_processor, works-with_task, works-counted, works-leaves, works-comes, works-switched, processors-read_at, count-read_at, tasks-read_at}
 use Rattle.bq_schedule.proofs.ClockLemmas.{count-figures, within-figures, not_below}
 use Rattle.bq_schedule.proofs.SumLemmas.{clocks-are-short}
 use Rattle.bq_schedule.proofs.WindowLemmas.{figures_are_filled, IsFilled}
@@ -134,8 +134,8 @@ goes-with_task : (s : Figures) (id : ℕ) (t : TaskFigures) → t.time ≡ (task
     → Goes s (figures_with_task s id t)
 goes-with_task s id t e p = goes-purses s _ (works-with_task s id t e) (PurseLemmas.kept-with_task s id t p)
 
-goes-asked : (processor : ℕ) (d : Decision) (s : Figures) → Goes s (figures_asked processor d s)
-goes-asked processor d s = goes-purses s _ (works-asked processor d s) (PurseLemmas.kept-asked processor d s)
+goes-counted : (processor : ℕ) (d : Decision) (s : Figures) → Goes s (figures_counted processor d s)
+goes-counted processor d s = goes-purses s _ (works-counted processor d s) (PurseLemmas.kept-counted processor d s)
 
 goes-emptied : (processor : ℕ) (s : Figures) → Goes s (emptied processor s)
 goes-emptied processor s = goes-purses s _ (works-with_processor s processor _ refl) (PurseLemmas.kept-with_processor s processor _ refl)
@@ -187,24 +187,24 @@ goes-decided : (processor now : ℕ) (d : Decision) (run : Option ℕ) (s : Figu
     → Goes (figures_read processor now s) (figures_decided processor now d run s)
 goes-decided processor now d run s =
     let r = figures_read processor now s in
-    goes-then r (figures_asked processor d r) _ (goes-asked processor d r)
-    (goes-switched Preempted processor (time_at processor now s) run (figures_asked processor d r))
+    goes-then r (figures_counted processor d r) _ (goes-counted processor d r)
+    (goes-switched Preempted processor (time_at processor now s) run (figures_counted processor d r))
 
 goes-placed : (processor now : ℕ) (d : Decision) (id to : ℕ) (s : Figures) → Goes (figures_read processor now s) (placed processor now d id to s)
 goes-placed processor now d id to s =
     let r = figures_read processor now s in
-    let a = figures_asked processor d r in
+    let a = figures_counted processor d r in
     let c = comes id to (time_at processor now s) a in
-    goes-then r a _ (goes-asked processor d r)
+    goes-then r a _ (goes-counted processor d r)
     (goes-then a c _ (goes-comes id to (time_at processor now s) a) (goes-with_task c id _ refl refl))
 
 goes-pulled : (processor now : ℕ) (d : Decision) (task run : Option ℕ) (s : Figures)
     → Goes (figures_read processor now s) (figures_pulled processor now d task run s)
 goes-pulled processor now d task run s =
     let r = figures_read processor now s in
-    let a = figures_asked processor d r in
+    let a = figures_counted processor d r in
     let k = figures_taken processor (time_at processor now s) task a in
-    goes-then r a _ (goes-asked processor d r)
+    goes-then r a _ (goes-counted processor d r)
     (goes-then a k _ (goes-taken processor (time_at processor now s) task a)
     (goes-switched Preempted processor (time_at processor now s) run k))
 

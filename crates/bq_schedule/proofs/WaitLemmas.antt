@@ -27,14 +27,14 @@ use Rattle.bq_schedule.specs.Passing.{figures_read, with_charged, processor_read
 use Rattle.bq_schedule.specs.Runnable.{left_from, figures_left, processor_joined, comes}
 use Rattle.bq_schedule.specs.Running.{running_task, stopped, started, starts_as, start_of, start_at, begun_if, figures_switched, is_run_by, with_latency}
 use Rattle.bq_schedule.specs.Slices.{sight, sight_of, clock, is_this}
-use Rattle.bq_schedule.specs.Steps.{nothing, figures_asked, waited_there, figures_taken, pulled_report, moves_as, placed, figures_pulled, performed, report_of_answer, time_at, is_there, figures_after, change, figures}
+use Rattle.bq_schedule.specs.Steps.{nothing, figures_counted, waited_there, figures_taken, pulled_report, moves_as, placed, figures_pulled, performed, report_of_answer, time_at, is_there, figures_after, change, figures}
 use Rattle.bq_schedule.specs.Waits.{gives_way, then_if, wait_begins, waits_since, wait_of_pull, wait_of_start, reported_wait}
 use Rattle.bq_schedule.specs.Laws.{IsSightWithin, IsOfProcessors, ReportsWaits, AddsUpWaits}
 use Rattle.bq_schedule.proofs.CountLemmas.{saturating_sum-both}
 use Rattle.bq_schedule.proofs.FrameLemmas.{task_kept, who_is}
 use Rattle.bq_schedule.proofs.ClockLemmas.{figures-clocks, within-figures, not_below}
 use Rattle.bq_schedule.proofs.SumLemmas.{tasks-figures}
-use Rattle.bq_schedule.proofs.WakeLemmas.{runs-ask, runs-block, runs-pull}
+use Rattle.bq_schedule.proofs.WakeLemmas.{runs-counted, runs-block, runs-pull}
 use Rattle.bq_schedule.proofs.SwitchLemmas.{not_who, of_some}
 
 -- what keeps since when tasks wait, and how long they have
@@ -66,8 +66,8 @@ kept-with_charged : (s : Figures) (o : Option Slice) → KeepsWaits s (with_char
 kept-with_charged s None = same s
 kept-with_charged s (Some x) = with_one s x.task _ refl refl
 
-kept-ask : (processor now : ℕ) (d : Decision) (s : Figures) → KeepsWaits s (figures_asked processor d (figures_read processor now s))
-kept-ask processor now d s =
+kept-counted : (processor now : ℕ) (d : Decision) (s : Figures) → KeepsWaits s (figures_counted processor d (figures_read processor now s))
+kept-counted processor now d s =
     let r = figures_with_processor s processor (processor_read processor (processor_in_figures s processor) now) in
     both s (figures_read processor now s) _
     (both s r _ (of_processor s processor _) (kept-with_charged r (slice_at processor (processor_in_figures s processor) now)))
@@ -325,8 +325,8 @@ placed-reports : (processor now : ℕ) (d : Decision) (id to : ℕ) (s : Figures
     → ReportsWaited s (placed processor now d id to s) j (then_if (eqb id j) (time_at processor now s)) c
 placed-reports processor now d id to s j c inside p st =
     let at = time_at processor now s in
-    let a = figures_asked processor d (figures_read processor now s) in
-    let k = kept-ask processor now d s in
+    let a = figures_counted processor d (figures_read processor now s) in
+    let k = kept-counted processor now d s in
     let m = comes id to at a in
     record {
       since =
@@ -376,16 +376,16 @@ or-is false false at since = refl
 
 -- a pull tells the waits that it makes: of the task it takes, and of those that give way and begin
 pulled-reports : (processor from now : ℕ) (d : Decision) (task run : Option ℕ) (s : Figures) (j : ℕ) (c : Change)
-    → j < length s.tasks → c.pull ≡ moves_as from processor (time_at processor now s) task (figures_asked processor d (figures_read processor now s))
+    → j < length s.tasks → c.pull ≡ moves_as from processor (time_at processor now s) task (figures_counted processor d (figures_read processor now s))
     → c.start ≡ start_at Preempted processor (time_at processor now s) run
-    (figures_taken processor (time_at processor now s) task (figures_asked processor d (figures_read processor now s)))
+    (figures_taken processor (time_at processor now s) task (figures_counted processor d (figures_read processor now s)))
     → ReportsWaited s (figures_pulled processor now d task run s) j
     (then_if (is_this j task || gives_way j (running_task (processor_in_figures s processor)) run) (time_at processor now s)) c
 pulled-reports processor from now d task run s j c inside p st =
     let at = time_at processor now s in
-    let a = figures_asked processor d (figures_read processor now s) in
+    let a = figures_counted processor d (figures_read processor now s) in
     let t = figures_taken processor at task a in
-    let k = kept-ask processor now d s in
+    let k = kept-counted processor now d s in
     let inside' : j < length a.tasks = omega (arith, k.tasks) in
     let inside'' : j < length t.tasks = omega (arith, inside', tasks-taken processor at task a) in
     record {
@@ -438,15 +438,15 @@ performed-reports s (EndWake processor now) (Placed task to by steps) j inside =
 performed-reports s (Drain processor now) (Drained count run by steps) j inside =
     let d : Decision = record { hook = Preempt; by = by; steps = steps } in
     let t =
-    switch-reports Preempted processor (time_at processor now s) run s (figures_asked processor d (figures_read processor now s)) j
-    (report_of_answer s (Drain processor now) (Drained count run by steps)) inside (kept-ask processor now d s)
-    (runs-ask processor now d s processor) refl refl in
+    switch-reports Preempted processor (time_at processor now s) run s (figures_counted processor d (figures_read processor now s)) j
+    (report_of_answer s (Drain processor now) (Drained count run by steps)) inside (kept-counted processor now d s)
+    (runs-counted processor now d s processor) refl refl in
     record { since = t.since; waited = t.waited }
 performed-reports s (Tick processor now) (Ticked run by steps) j inside =
     let d : Decision = record { hook = Preempt; by = by; steps = steps } in
-    switch-reports Preempted processor (time_at processor now s) run s (figures_asked processor d (figures_read processor now s)) j
-    (report_of_answer s (Tick processor now) (Ticked run by steps)) inside (kept-ask processor now d s)
-    (runs-ask processor now d s processor) refl refl
+    switch-reports Preempted processor (time_at processor now s) run s (figures_counted processor d (figures_read processor now s)) j
+    (report_of_answer s (Tick processor now) (Ticked run by steps)) inside (kept-counted processor now d s)
+    (runs-counted processor now d s processor) refl refl
 performed-reports s (Block processor now) (Went task run) j inside =
     switch-reports Blocked processor (time_at processor now s) run s (figures_left task (figures_read processor now s)) j
     (report_of_answer s (Block processor now) (Went task run)) inside (kept-block processor now task s)
@@ -529,16 +529,16 @@ start-performed : (s : Figures) (e : Event) (r : Reply) (st : Start)
 start-performed s (EndWake processor now) (Placed task to by steps) st e = cc
 start-performed s (Drain processor now) (Drained count run by steps) st e =
     starts-waited Preempted processor (time_at processor now s) run
-    (figures_asked processor (record { hook = Preempt; by = by; steps = steps }) (figures_read processor now s)) st e
+    (figures_counted processor (record { hook = Preempt; by = by; steps = steps }) (figures_read processor now s)) st e
 start-performed s (Tick processor now) (Ticked run by steps) st e =
     starts-waited Preempted processor (time_at processor now s) run
-    (figures_asked processor (record { hook = Preempt; by = by; steps = steps }) (figures_read processor now s)) st e
+    (figures_counted processor (record { hook = Preempt; by = by; steps = steps }) (figures_read processor now s)) st e
 start-performed s (Block processor now) (Went task run) st e =
     starts-waited Blocked processor (time_at processor now s) run (figures_left task (figures_read processor now s)) st e
 start-performed s (Pull processor from now) (Pulled task run by steps) st e =
     starts-waited Preempted processor (time_at processor now s) run
     (figures_taken processor (time_at processor now s) task
-    (figures_asked processor (record { hook = OnPull; by = by; steps = steps }) (figures_read processor now s))) st e
+    (figures_counted processor (record { hook = OnPull; by = by; steps = steps }) (figures_read processor now s))) st e
 start-performed s e r st h = cc
 
 start-reported_if : (b : Bool) (s : Figures) (e : Event) (r : Reply) (st : Start)
@@ -561,8 +561,8 @@ pull-performed s (Tick processor now) (Ticked run by steps) p e = cc
 pull-performed s (Block processor now) (Went task run) p e = cc
 pull-performed s (Pull processor from now) (Pulled task run by steps) p e =
     let d : Decision = record { hook = OnPull; by = by; steps = steps } in
-    pull-waited from processor (time_at processor now s) task (figures_asked processor d (figures_read processor now s)) p e
-    ∙ ap (λ n. p.at - n) ((kept-ask processor now d s).since p.task)
+    pull-waited from processor (time_at processor now s) task (figures_counted processor d (figures_read processor now s)) p e
+    ∙ ap (λ n. p.at - n) ((kept-counted processor now d s).since p.task)
 pull-performed s e r p h = cc
 
 pull-reported_if : (b : Bool) (s : Figures) (e : Event) (r : Reply) (p : PulledTask)

@@ -25,9 +25,9 @@ use Rattle.bq_schedule.specs.Runnable.{left_from, figures_left, comes}
 use Rattle.bq_schedule.specs.Running.{running_task, stopped, started, starts_as, start_of, start_at, begun_if, figures_switched, is_run_by}
 use Rattle.bq_schedule.specs.Slices.{Sight, sight, sight_of, clock, clock_after, runner, is_this}
 use Rattle.bq_schedule.specs.Wakes.{begins_as, begins_run, wake_end, awaited_after, awaited}
-use Rattle.bq_schedule.specs.Steps.{nothing, figures_asked, waited_there, figures_taken, placed, figures_decided, blocked, figures_pulled, performed, report_of_answer, time_at, is_there, figures_after, change, figures}
+use Rattle.bq_schedule.specs.Steps.{nothing, figures_counted, waited_there, figures_taken, placed, figures_decided, blocked, figures_pulled, performed, report_of_answer, time_at, is_there, figures_after, change, figures}
 use Rattle.bq_schedule.specs.Laws.{IsSightWithin, IsOfProcessors, ReportsLatencies}
-use Rattle.bq_schedule.proofs.FrameLemmas.{task_kept, running-asked, running-leaves, running-taken, running-read_at}
+use Rattle.bq_schedule.proofs.FrameLemmas.{task_kept, running-counted, running-leaves, running-taken, running-read_at}
 use Rattle.bq_schedule.proofs.ClockLemmas.{figures-clocks, within-figures, not_below}
 use Rattle.bq_schedule.proofs.SumLemmas.{tasks-figures}
 
@@ -193,7 +193,7 @@ placed-awaits : (processor now : ℕ) (d : Decision) (id to : ℕ) (s : Figures)
 placed-awaits processor now d id to s j inside =
     let at = time_at processor now s in
     let r = figures_read processor now s in
-    let a = figures_asked processor d r in
+    let a = figures_counted processor d r in
     let c = comes id to at a in
     let k : KeepsWakes s c = both s r c (kept-read_at processor now s) (both r a c (of_processor r processor _) (kept-comes id to at a)) in
     set-one c id j _ (eqb id j) (omega (arith, k.tasks)) (eqb_tells id j)
@@ -211,14 +211,14 @@ switched-awaits reason processor now run s t j inside k r =
     ∙ ap (λ o. cond (begins_as j (running_task (processor_in_figures s processor)) (Some run)) None o) (k.at j)
 
 -- a decision that is counted after a reading keeps wakes
-kept-ask : (processor now : ℕ) (d : Decision) (s : Figures) → KeepsWakes s (figures_asked processor d (figures_read processor now s))
-kept-ask processor now d s =
+kept-counted : (processor now : ℕ) (d : Decision) (s : Figures) → KeepsWakes s (figures_counted processor d (figures_read processor now s))
+kept-counted processor now d s =
     both s (figures_read processor now s) _ (kept-read_at processor now s) (of_processor (figures_read processor now s) processor _)
 
 -- counting a decision and reading a clock keep who runs
-pub runs-ask : (processor now : ℕ) (d : Decision) (s : Figures) (j : ℕ)
-    → (processor_in_figures (figures_asked processor d (figures_read processor now s)) j).running ≡ (processor_in_figures s j).running
-runs-ask processor now d s j = (running-asked processor d (figures_read processor now s)).at j ∙ (running-read_at processor now s).at j
+pub runs-counted : (processor now : ℕ) (d : Decision) (s : Figures) (j : ℕ)
+    → (processor_in_figures (figures_counted processor d (figures_read processor now s)) j).running ≡ (processor_in_figures s j).running
+runs-counted processor now d s j = (running-counted processor d (figures_read processor now s)).at j ∙ (running-read_at processor now s).at j
 
 -- a decision ends the wait of the wake whose task begins to run, and of no other
 decided-awaits : (processor now : ℕ) (d : Decision) (run : Option ℕ) (s : Figures) (j : ℕ)
@@ -226,8 +226,8 @@ decided-awaits : (processor now : ℕ) (d : Decision) (run : Option ℕ) (s : Fi
     → (task_in_figures (figures_decided processor now d run s) j).woken
     ≡ cond (begins_as j (running_task (processor_in_figures s processor)) (Some run)) None (task_in_figures s j).woken
 decided-awaits processor now d run s j inside =
-    switched-awaits Preempted processor (time_at processor now s) run s _ j inside (kept-ask processor now d s)
-    (runs-ask processor now d s processor)
+    switched-awaits Preempted processor (time_at processor now s) run s _ j inside (kept-counted processor now d s)
+    (runs-counted processor now d s processor)
 
 -- a task that leaves its processor after a reading keeps wakes
 kept-block : (processor now id : ℕ) (s : Figures) → KeepsWakes s (figures_left id (figures_read processor now s))
@@ -249,18 +249,18 @@ blocked-awaits processor now id run s j inside =
 
 -- to pull a task after a reading keeps wakes
 kept-pull : (processor now : ℕ) (d : Decision) (task : Option ℕ) (s : Figures)
-    → KeepsWakes s (figures_taken processor (time_at processor now s) task (figures_asked processor d (figures_read processor now s)))
+    → KeepsWakes s (figures_taken processor (time_at processor now s) task (figures_counted processor d (figures_read processor now s)))
 kept-pull processor now d task s =
-    both s (figures_asked processor d (figures_read processor now s)) _ (kept-ask processor now d s)
+    both s (figures_counted processor d (figures_read processor now s)) _ (kept-counted processor now d s)
     (kept-taken processor (time_at processor now s) task _)
 
 -- a pull keeps who runs
 pub runs-pull : (processor now : ℕ) (d : Decision) (task : Option ℕ) (s : Figures) (j : ℕ)
-    → (processor_in_figures (figures_taken processor (time_at processor now s) task (figures_asked processor d (figures_read processor now s))) j).running
+    → (processor_in_figures (figures_taken processor (time_at processor now s) task (figures_counted processor d (figures_read processor now s))) j).running
     ≡ (processor_in_figures s j).running
 runs-pull processor now d task s j =
-    (running-taken processor (time_at processor now s) task (figures_asked processor d (figures_read processor now s))).at j
-    ∙ runs-ask processor now d s j
+    (running-taken processor (time_at processor now s) task (figures_counted processor d (figures_read processor now s))).at j
+    ∙ runs-counted processor now d s j
 
 -- a pull ends the wait of the wake whose task begins to run, and of no other
 pulled-awaits : (processor now : ℕ) (d : Decision) (task run : Option ℕ) (s : Figures) (j : ℕ)
@@ -388,15 +388,15 @@ starts-performed s (Drain processor now) (Drained count run by steps) start e =
     let d : Decision = record { hook = Preempt; by = by; steps = steps } in (
       run,
       refl,
-      starts Preempted s (figures_asked processor d (figures_read processor now s)) processor now run start (kept-ask processor now d s)
-          (runs-ask processor now d s processor) e,
+      starts Preempted s (figures_counted processor d (figures_read processor now s)) processor now run start (kept-counted processor now d s)
+          (runs-counted processor now d s processor) e,
     )
 starts-performed s (Tick processor now) (Ticked run by steps) start e =
     let d : Decision = record { hook = Preempt; by = by; steps = steps } in (
       run,
       refl,
-      starts Preempted s (figures_asked processor d (figures_read processor now s)) processor now run start (kept-ask processor now d s)
-          (runs-ask processor now d s processor) e,
+      starts Preempted s (figures_counted processor d (figures_read processor now s)) processor now run start (kept-counted processor now d s)
+          (runs-counted processor now d s processor) e,
     )
 starts-performed s (Block processor now) (Went task run) start e = (
   run,
@@ -408,7 +408,7 @@ starts-performed s (Pull processor from now) (Pulled task run by steps) start e 
     let d : Decision = record { hook = OnPull; by = by; steps = steps } in (
       run,
       refl,
-      starts Preempted s (figures_taken processor (time_at processor now s) task (figures_asked processor d (figures_read processor now s)))
+      starts Preempted s (figures_taken processor (time_at processor now s) task (figures_counted processor d (figures_read processor now s)))
           processor now run start (kept-pull processor now d task s) (runs-pull processor now d task s processor) e,
     )
 starts-performed s (EndWake processor now) (Placed task to by steps) start e = cc

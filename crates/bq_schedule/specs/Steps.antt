@@ -43,22 +43,22 @@ abbrev pub was_overruled : Decision → Bool
 was_overruled d = not (is_by_policy d.by) && nat_lt 0 d.steps
 
 -- a hook's figures after a decision
-abbrev pub hook_asked : HookFigures → Decision → HookFigures
-hook_asked h d = record {
+abbrev pub hook_counted : HookFigures → Decision → HookFigures
+hook_counted h d = record {
   asked = saturating_sum h.asked (if was_asked d then 1 else 0);
   overruled = saturating_sum h.overruled (if was_overruled d then 1 else 0);
   steps = saturating_sum h.steps d.steps;
 }
 
 -- a processor's figures after a decision of one of its hooks
-abbrev pub processor_asked : ProcessorFigures → Decision → Hook → ProcessorFigures
-processor_asked p d Place = record p { place = hook_asked p.place d }
-processor_asked p d Preempt = record p { preempt = hook_asked p.preempt d }
-processor_asked p d OnPull = record p { pull = hook_asked p.pull d }
+abbrev pub processor_counted : ProcessorFigures → Decision → Hook → ProcessorFigures
+processor_counted p d Place = record p { place = hook_counted p.place d }
+processor_counted p d Preempt = record p { preempt = hook_counted p.preempt d }
+processor_counted p d OnPull = record p { pull = hook_counted p.pull d }
 
 -- the figures after a decision of a processor's hook
-abbrev pub figures_asked : ℕ → Decision → Figures → Figures
-figures_asked processor d s = figures_with_processor s processor (processor_asked (processor_in_figures s processor) d d.hook)
+abbrev pub figures_counted : ℕ → Decision → Figures → Figures
+figures_counted processor d s = figures_with_processor s processor (processor_counted (processor_in_figures s processor) d d.hook)
 
 -- the weight of a nice value; 0 if the value is outside the table
 abbrev pub weight_or_zero : ℤ → ℕ
@@ -111,7 +111,7 @@ report_of_reading processor now s =
 abbrev pub placed : ℕ → ℕ → Decision → ℕ → ℕ → Figures → Figures
 placed processor now d id to s =
     let at = time_at processor now s in
-    figures_woken id to at (comes id to at (figures_asked processor d (figures_read processor now s)))
+    figures_woken id to at (comes id to at (figures_counted processor d (figures_read processor now s)))
 
 -- what is reported of a wake that ended
 abbrev pub report_of_placement : ℕ → ℕ → Decision → ℕ → ℕ → Figures → Change
@@ -120,12 +120,12 @@ report_of_placement processor now d id to s =
 
 -- the figures after the hook `preempt` decided, and this task runs
 abbrev pub figures_decided : ℕ → ℕ → Decision → Option ℕ → Figures → Figures
-figures_decided processor now d run s = figures_switched Preempted processor (time_at processor now s) run (figures_asked processor d (figures_read processor now s))
+figures_decided processor now d run s = figures_switched Preempted processor (time_at processor now s) run (figures_counted processor d (figures_read processor now s))
 
 -- what is reported of a decision of the hook `preempt`
 abbrev pub report_of_decision : ℕ → ℕ → Decision → Option ℕ → Figures → Change
 report_of_decision processor now d run s =
-    let s' = figures_asked processor d (figures_read processor now s) in
+    let s' = figures_counted processor d (figures_read processor now s) in
     let at = time_at processor now s in
     record (report_of_reading processor now s) { decision = Some d; stop = stop_at Preempted processor at run s'; start = start_at Preempted processor at run s' }
 
@@ -144,13 +144,13 @@ report_of_block processor now id run s =
 abbrev pub figures_pulled : ℕ → ℕ → Decision → Option ℕ → Option ℕ → Figures → Figures
 figures_pulled processor now d task run s =
     let at = time_at processor now s in
-    figures_switched Preempted processor at run (figures_taken processor at task (figures_asked processor d (figures_read processor now s)))
+    figures_switched Preempted processor at run (figures_taken processor at task (figures_counted processor d (figures_read processor now s)))
 
 -- what is reported of a pull
 abbrev pub report_of_pull : ℕ → ℕ → ℕ → Decision → Option ℕ → Option ℕ → Figures → Change
 report_of_pull processor from now d task run s =
     let at = time_at processor now s in
-    let s1 = figures_asked processor d (figures_read processor now s) in
+    let s1 = figures_counted processor d (figures_read processor now s) in
     let s2 = figures_taken processor at task s1 in
     record (report_of_reading processor now s) {
       decision = Some d;

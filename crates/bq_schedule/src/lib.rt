@@ -3,8 +3,8 @@
 //! Uses bq_parts only for events and answers: it holds no world, and asks none.
 #![tactic(auto)]
 
-mod asking;
 pub mod change;
+mod decision_counts;
 pub mod figures;
 pub mod latencies;
 pub mod laws;

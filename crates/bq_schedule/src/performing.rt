@@ -110,7 +110,7 @@ impl Schedule {
     {
         let (reading, slice, ended) = self.read(processor, now);
         let at = reading.current;
-        self.ask(processor, &decision);
+        self.count_decision(processor, &decision);
         self.come(id, to, at);
         self.wake(id, to, at);
         Change {
@@ -149,7 +149,7 @@ impl Schedule {
     {
         let (reading, slice, ended) = self.read(processor, now);
         let at = reading.current;
-        self.ask(processor, &decision);
+        self.count_decision(processor, &decision);
         let (stop, start) = self.switch(StopReason::Preempted, processor, at, run);
         Change {
             reading: Some(reading),
@@ -198,7 +198,7 @@ impl Schedule {
     {
         let (reading, slice, ended) = self.read(processor, now);
         let at = reading.current;
-        self.ask(processor, &decision);
+        self.count_decision(processor, &decision);
         let pull = self.take_over(task, from, processor, at);
         let (stop, start) = self.switch(StopReason::Preempted, processor, at, run);
         Change {

@@ -3,8 +3,8 @@ ghost use Rattle.std.specs.Prelude.{◌≡◌};
 ghost use Rattle.bq_schedule.specs.Figures.{task_in_figures};
 ghost use Rattle.bq_schedule.specs.Running.{is_run_by, start_of, starts_as, figures_begun, processor_runs, with_latency, task_started, task_preempted, stopped, started, figures_switched, stop_of, stop_at, start_at};
 
-use crate::asking::count_if;
 use crate::change::{Start, Stop, StopReason};
+use crate::decision_counts::count_if;
 use crate::figures::{ProcessorFigures, TaskFigures};
 use crate::schedule::Schedule;
 

@@ -1,7 +1,7 @@
-//! How often each hook's policies were asked, and what became of their answers.
+//! How the decisions of each hook are counted: how often its policies were asked, and how often they were overruled.
 ghost use Rattle.std.specs.Prelude.{◌≡◌, if◌then◌else◌};
 ghost use Rattle.bq_disc.specs.Counts.{saturating_sum};
-ghost use Rattle.bq_schedule.specs.Steps.{hook_asked, processor_asked, figures_asked};
+ghost use Rattle.bq_schedule.specs.Steps.{hook_counted, processor_counted, figures_counted};
 
 use crate::change::Decision;
 use crate::figures::{HookFigures, ProcessorFigures};
@@ -10,32 +10,32 @@ use bq_hooks::Hook;
 
 impl Schedule {
     /// Counts a decision of a processor's hook, if the processor exists.
-    pub(crate) fn ask(&mut self, processor: u8, decision: &Decision)
-        ensures { self.new ≡ figures_asked processor decision.now self.old }
+    pub(crate) fn count_decision(&mut self, processor: u8, decision: &Decision)
+        ensures { self.new ≡ figures_counted processor decision.now self.old }
     {
         if let Some(figures) = self.processors.get_mut(usize::from(processor)) {
-            figures.ask(decision);
+            figures.count_decision(decision);
         }
     }
 }
 
 impl ProcessorFigures {
     /// Counts a decision of one of the processor's hooks.
-    fn ask(&mut self, decision: &Decision)
-        ensures { self.new ≡ processor_asked self.old decision.now decision.now.hook }
+    fn count_decision(&mut self, decision: &Decision)
+        ensures { self.new ≡ processor_counted self.old decision.now decision.now.hook }
     {
         match decision.hook {
-            Hook::Place => self.place.ask(decision),
-            Hook::Preempt => self.preempt.ask(decision),
-            Hook::Pull => self.pull.ask(decision),
+            Hook::Place => self.place.count_decision(decision),
+            Hook::Preempt => self.preempt.count_decision(decision),
+            Hook::Pull => self.pull.count_decision(decision),
         }
     }
 }
 
 impl HookFigures {
     /// Counts one decision of this hook.
-    fn ask(&mut self, decision: &Decision)
-        ensures { self.new ≡ hook_asked self.old decision.now }
+    fn count_decision(&mut self, decision: &Decision)
+        ensures { self.new ≡ hook_counted self.old decision.now }
     {
         self.asked = count_if(self.asked, decision.was_asked());
         self.overruled = count_if(self.overruled, decision.was_overruled());
