@@ -196,7 +196,7 @@ abbrev pub wait_at : Figures → ℕ → Option ℕ → Option Slice
 wait_at s id None = None
 wait_at s id (Some p) =
     if is_this id (running_task (processor_in_figures s p)) then None
-    else Some (record { processor = p; task = id; from = (task_in_figures s id).since; to = (processor_in_figures s p).last })
+    else Some (record { processor = p; task = id; from = (task_in_figures s id).waiting_since; to = (processor_in_figures s p).last })
 
 -- the shown parts of the waits that still go on are added, for the tasks below a number
 unfoldable pub HoldsWaiting : Window → Figures → ℕ → Held → Held → Type 0

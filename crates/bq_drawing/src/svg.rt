@@ -366,7 +366,7 @@ fn wait_of(schedule: &Schedule, id: u16) -> Option<Slice>
     Some(Slice {
         processor,
         task: id,
-        from: task.since,
+        from: task.waiting_since,
         to: figures.last,
     })
 }

@@ -17,7 +17,7 @@ waits_until s id = last_unless_running s id (task_in_figures s id).processor
 
 -- how long the task's current wait has lasted; 0 if the clocks disagree, or if it does not wait
 abbrev pub open_wait : Figures → ℕ → ℕ
-open_wait s id = unwrap_or (option_map (λ (last : ℕ). last - (task_in_figures s id).since) (waits_until s id)) 0
+open_wait s id = unwrap_or (option_map (λ (last : ℕ). last - (task_in_figures s id).waiting_since) (waits_until s id)) 0
 
 -- how long a task has waited in all: the waits that are over, and the current one
 abbrev pub waited_in_all : Figures → ℕ → ℕ
@@ -25,4 +25,4 @@ waited_in_all s id = saturating_sum (task_in_figures s id).waited (open_wait s i
 
 -- how long ago the task's last wake ended, if the task has not run since and waits
 abbrev pub still_waiting : Figures → ℕ → Option ℕ
-still_waiting s id = option_and_then (λ (last : ℕ). option_map (λ (at : ℕ). last - at) (task_in_figures s id).woken) (waits_until s id)
+still_waiting s id = option_and_then (λ (last : ℕ). option_map (λ (at : ℕ). last - at) (task_in_figures s id).woken_at) (waits_until s id)

@@ -27,7 +27,7 @@ pub fn still_waiting(schedule: &Schedule, task: u16) -> Option<u64>
     ensures { result ≡ still_waiting schedule.now task }
 {
     let last = waits_until(schedule, task)?;
-    let woken = schedule.task(task).woken?;
+    let woken = schedule.task(task).woken_at?;
     Some(last.saturating_sub(woken))
 }
 
@@ -36,7 +36,7 @@ fn open_wait(schedule: &Schedule, task: u16) -> u64
     ensures { result ≡ open_wait schedule.now task }
 {
     match waits_until(schedule, task) {
-        Some(last) => last.saturating_sub(schedule.task(task).since),
+        Some(last) => last.saturating_sub(schedule.task(task).waiting_since),
         None => 0,
     }
 }

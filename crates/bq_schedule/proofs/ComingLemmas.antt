@@ -53,7 +53,7 @@ worth-here f u processor o e j =
 joined-inside : (s : Figures) (id processor : ℕ) (p : ProcessorFigures) (t' : TaskFigures)
     → PurseLemmas.IsSound s → id < length s.tasks → (task_in_figures s id).processor ≡ None → p.shared ≡ PurseLemmas.shared_at s processor
     → p.weight ≡ saturating_sum (processor_in_figures s processor).weight (task_in_figures s id).weight → t'.processor ≡ Some processor
-    → t'.weight ≡ (task_in_figures s id).weight → t'.joined ≡ PurseLemmas.shared_at s processor → t'.accrued ≡ (task_in_figures s id).accrued
+    → t'.weight ≡ (task_in_figures s id).weight → t'.shared_at_arrival ≡ PurseLemmas.shared_at s processor → t'.earlier_fair_time ≡ (task_in_figures s id).earlier_fair_time
     → Stays s (figures_with_task (figures_with_processor s processor p) id t')
 joined-inside s id processor p t' h inside at shared weight now_at same joined accrued =
     let s1 = figures_with_processor s processor p in
@@ -62,7 +62,7 @@ joined-inside s id processor p t' h inside at shared weight now_at same joined a
     let gives : (j : ℕ) → PurseLemmas.shared_at s2 j ≡ PurseLemmas.shared_at s j = λ j. shared-with_processor s processor p j shared in
     let is : (j : ℕ) → PurseLemmas.purse (task_in_figures s2 j) ≡ cond (eqb id j) u (PurseLemmas.purse (task_in_figures s j)) =
     λ j. set_reads PurseLemmas.purse s1 id j t' (eqb id j) inside (eqb_tells id j) in
-    let had : PurseLemmas.uncapped s id ≡ (task_in_figures s id).accrued =
+    let had : PurseLemmas.uncapped s id ≡ (task_in_figures s id).earlier_fair_time =
     ap (λ o. PurseLemmas.worth_at (PurseLemmas.shared_at s) (PurseLemmas.purse (task_in_figures s id)) o) at in
     record {
       sound = record {
@@ -149,14 +149,14 @@ table-cond false u v h l = l
 
 -- a task that is nowhere has another weight
 admitted-inside : (s : Figures) (id : ℕ) (t' : TaskFigures) → PurseLemmas.IsSound s → id < length s.tasks
-    → (task_in_figures s id).processor ≡ None → t'.processor ≡ None → t'.weight ≤ 88761 → t'.accrued ≡ (task_in_figures s id).accrued
+    → (task_in_figures s id).processor ≡ None → t'.processor ≡ None → t'.weight ≤ 88761 → t'.earlier_fair_time ≡ (task_in_figures s id).earlier_fair_time
     → Stays s (figures_with_task s id t')
 admitted-inside s id t' h inside at now_at weight accrued =
     let s2 = figures_with_task s id t' in
     let u = PurseLemmas.purse t' in
     let is : (j : ℕ) → PurseLemmas.purse (task_in_figures s2 j) ≡ cond (eqb id j) u (PurseLemmas.purse (task_in_figures s j)) =
     λ j. set_reads PurseLemmas.purse s id j t' (eqb id j) inside (eqb_tells id j) in
-    let had : PurseLemmas.uncapped s id ≡ (task_in_figures s id).accrued =
+    let had : PurseLemmas.uncapped s id ≡ (task_in_figures s id).earlier_fair_time =
     ap (λ o. PurseLemmas.worth_at (PurseLemmas.shared_at s) (PurseLemmas.purse (task_in_figures s id)) o) at in
     record {
       sound = record {

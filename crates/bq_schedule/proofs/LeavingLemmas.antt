@@ -181,7 +181,7 @@ raw-set s s' id j u gives is same =
 left-one : (s : Figures) (id processor : ℕ) (p : ProcessorFigures) (t' : TaskFigures)
     → PurseLemmas.IsSound s → (task_in_figures s id).processor ≡ Some processor → p.shared ≡ PurseLemmas.shared_at s processor
     → p.weight ≡ (processor_in_figures s processor).weight - (task_in_figures s id).weight → t'.processor ≡ None
-    → t'.weight ≡ (task_in_figures s id).weight → t'.accrued ≡ PurseLemmas.uncapped s id
+    → t'.weight ≡ (task_in_figures s id).weight → t'.earlier_fair_time ≡ PurseLemmas.uncapped s id
     → Leaves id s (figures_with_task (figures_with_processor s processor p) id t')
 left-one s id processor p t' h at shared weight nowhere same accrued =
     let s1 = figures_with_processor s processor p in
@@ -215,10 +215,10 @@ left-if : (s : Figures) (id : ℕ) (o : Option ℕ) → PurseLemmas.IsSound s �
 left-if s id None h at small = record { sound = h; raws = λ j. refl; nowhere = at }
 left-if s id (Some processor) h at small =
     let t = task_in_figures s id in
-    let is : PurseLemmas.uncapped s id ≡ t.accrued + t.weight * (PurseLemmas.shared_at s processor - t.joined) =
+    let is : PurseLemmas.uncapped s id ≡ t.earlier_fair_time + t.weight * (PurseLemmas.shared_at s processor - t.shared_at_arrival) =
     ap (λ o. PurseLemmas.worth_at (PurseLemmas.shared_at s) (PurseLemmas.purse t) o) at in
     left-one s id processor (processor_left (processor_in_figures s processor) t.weight)
-    (record t { accrued = fair_at s t (Some processor); processor = None; drains = None }) h at refl refl refl refl
+    (record t { earlier_fair_time = fair_at s t (Some processor); processor = None; drains_when_placed = None }) h at refl refl refl refl
     (omega (arith, is, small))
 
 -- a task that leaves is nowhere, all stays sound, and each has what it had, where what it has fits in 128 bits

@@ -37,7 +37,7 @@ pub record Purse : Type 0 where
 
 -- of a task's figures, its processor, its weight and what it was given
 abbrev pub purse : TaskFigures → Purse
-purse t = record { processor = t.processor; weight = t.weight; joined = t.joined; accrued = t.accrued }
+purse t = record { processor = t.processor; weight = t.weight; joined = t.shared_at_arrival; accrued = t.earlier_fair_time }
 
 -- the weight at a processor, and what each unit of weight was given there
 pub record Pot : Type 0 where

@@ -39,27 +39,27 @@ use Rattle.bq_schedule.proofs.SwitchLemmas.{not_who, of_some}
 
 -- what keeps since when tasks wait, and how long they have
 pub record KeepsWaits (s s' : Figures) : Type 0 where
-  pub since : (id : ℕ) → (task_in_figures s' id).since ≡ (task_in_figures s id).since
+  pub waiting_since : (id : ℕ) → (task_in_figures s' id).waiting_since ≡ (task_in_figures s id).waiting_since
   pub waited : (id : ℕ) → (task_in_figures s' id).waited ≡ (task_in_figures s id).waited
   pub tasks : length s'.tasks ≡ length s.tasks
 
 -- what changes nothing keeps waits; so do two such steps, a task set with the same waits, and a processor that is set:
 same : (s : Figures) → KeepsWaits s s
-same s = record { since = λ id. refl; waited = λ id. refl; tasks = refl }
+same s = record { waiting_since = λ id. refl; waited = λ id. refl; tasks = refl }
 
 both : (s t u : Figures) → KeepsWaits s t → KeepsWaits t u → KeepsWaits s u
-both s t u a b = record { since = λ id. b.since id ∙ a.since id; waited = λ id. b.waited id ∙ a.waited id; tasks = b.tasks ∙ a.tasks }
+both s t u a b = record { waiting_since = λ id. b.waiting_since id ∙ a.waiting_since id; waited = λ id. b.waited id ∙ a.waited id; tasks = b.tasks ∙ a.tasks }
 
-with_one : (s : Figures) (i : ℕ) (t : TaskFigures) → t.since ≡ (task_in_figures s i).since → t.waited ≡ (task_in_figures s i).waited
+with_one : (s : Figures) (i : ℕ) (t : TaskFigures) → t.waiting_since ≡ (task_in_figures s i).waiting_since → t.waited ≡ (task_in_figures s i).waited
     → KeepsWaits s (figures_with_task s i t)
 with_one s i t e f = record {
-  since = λ id. task_kept (λ (u : TaskFigures). u.since) s i id t e;
+  waiting_since = λ id. task_kept (λ (u : TaskFigures). u.waiting_since) s i id t e;
   waited = λ id. task_kept (λ (u : TaskFigures). u.waited) s i id t f;
   tasks = length-set s.tasks i t;
 }
 
 of_processor : (s : Figures) (i : ℕ) (p : ProcessorFigures) → KeepsWaits s (figures_with_processor s i p)
-of_processor s i p = record { since = λ id. refl; waited = λ id. refl; tasks = refl }
+of_processor s i p = record { waiting_since = λ id. refl; waited = λ id. refl; tasks = refl }
 
 -- to charge a task for a slice keeps waits, and so does a decision that is counted after a reading:
 kept-with_charged : (s : Figures) (o : Option Slice) → KeepsWaits s (with_charged s o)
@@ -113,12 +113,12 @@ saturating_sum-at s i j more false (inr e) h = omega arith
 
 -- a task that comes to a processor waits from then on
 since-comes : (id processor at : ℕ) (s : Figures) (j : ℕ) → j < length s.tasks
-    → (task_in_figures (comes id processor at s) j).since ≡ cond (eqb id j) at (task_in_figures s j).since
+    → (task_in_figures (comes id processor at s) j).waiting_since ≡ cond (eqb id j) at (task_in_figures s j).waiting_since
 since-comes id processor at s j inside =
     let l = figures_left id s in
     let k = kept-leaves id s in
     let q = figures_with_processor l processor (processor_joined (processor_in_figures l processor) (task_in_figures l id).weight) in
-    set-at (λ t. t.since) q id j _ (eqb id j) (omega (arith, k.tasks)) (eqb_tells id j) ∙ ap (λ n. cond (eqb id j) at n) (k.since j)
+    set-at (λ t. t.waiting_since) q id j _ (eqb id j) (omega (arith, k.tasks)) (eqb_tells id j) ∙ ap (λ n. cond (eqb id j) at n) (k.waiting_since j)
 
 -- to come to a processor adds nothing to how long a task has waited
 waited-comes : (id processor at : ℕ) (s : Figures) (j : ℕ) → (task_in_figures (comes id processor at s) j).waited ≡ (task_in_figures s j).waited
@@ -130,16 +130,16 @@ waited-comes id processor at s j =
 -- a task that is pulled, if there is one, waits from then on
 since-taken : (processor at : ℕ) (task : Option ℕ) (s : Figures) (j : ℕ)
     → j < length s.tasks
-    → (task_in_figures (figures_taken processor at task s) j).since ≡ cond (is_this j task) at (task_in_figures s j).since
+    → (task_in_figures (figures_taken processor at task s) j).waiting_since ≡ cond (is_this j task) at (task_in_figures s j).waiting_since
 since-taken processor at None s j inside = refl
 since-taken processor at (Some id) s j inside =
     let w = waited_there id at s in
     since-comes id processor at w j
     (omega (
       arith,
-      length-set s.tasks id (record (task_in_figures s id) { waited = saturating_sum (task_in_figures s id).waited (at - (task_in_figures s id).since) }),
+      length-set s.tasks id (record (task_in_figures s id) { waited = saturating_sum (task_in_figures s id).waited (at - (task_in_figures s id).waiting_since) }),
     ))
-    ∙ ap (λ n. cond (eqb id j) at n) (task_kept (λ (t : TaskFigures). t.since) s id j _ refl)
+    ∙ ap (λ n. cond (eqb id j) at n) (task_kept (λ (t : TaskFigures). t.waiting_since) s id j _ refl)
 
 -- what it has waited counts
 waited-taken : (processor from at : ℕ) (task : Option ℕ) (s : Figures) (j : ℕ)
@@ -150,7 +150,7 @@ waited-taken processor from at None s j inside h = saturating_sum-none (task_in_
 waited-taken processor from at (Some id) s j inside h =
     waited-comes id processor at (waited_there id at s) j
     ∙ set-at (λ t. t.waited) s id j _ (eqb id j) inside (eqb_tells id j)
-    ∙ saturating_sum-at s id j (at - (task_in_figures s id).since) (eqb id j) (eqb_tells id j) h
+    ∙ saturating_sum-at s id j (at - (task_in_figures s id).waiting_since) (eqb id j) (eqb_tells id j) h
 
 -- one that is preempted waits from then on, and one that blocks does not
 abbrev pub if_preempted : StopReason → Bool → Bool
@@ -160,12 +160,12 @@ if_preempted Blocked b = false
 -- after a stop the task that ran waits from then on, if it was preempted
 since-stopped : (reason : StopReason) (at : ℕ) (running : Option Start) (s : Figures) (j : ℕ)
     → j < length s.tasks
-    → (task_in_figures (stopped reason at running s) j).since
-    ≡ cond (if_preempted reason (is_this j (option_map (λ (x : Start). x.task) running))) at (task_in_figures s j).since
+    → (task_in_figures (stopped reason at running s) j).waiting_since
+    ≡ cond (if_preempted reason (is_this j (option_map (λ (x : Start). x.task) running))) at (task_in_figures s j).waiting_since
 since-stopped Preempted at None s j inside = refl
 since-stopped Blocked at None s j inside = refl
 since-stopped Blocked at (Some old) s j inside = refl
-since-stopped Preempted at (Some old) s j inside = set-at (λ t. t.since) s old.task j _ (eqb old.task j) inside (eqb_tells old.task j)
+since-stopped Preempted at (Some old) s j inside = set-at (λ t. t.waiting_since) s old.task j _ (eqb old.task j) inside (eqb_tells old.task j)
 
 -- a stop adds nothing to how long tasks have waited, and leaves as many tasks as before:
 waited-stopped : (reason : StopReason) (at : ℕ) (running : Option Start) (s : Figures) (j : ℕ)
@@ -180,14 +180,14 @@ tasks-stopped Blocked at (Some old) s = refl
 tasks-stopped Preempted at (Some old) s = length-set s.tasks old.task _
 
 -- the start of a task leaves since when each waits:
-since-with_latency : (t : TaskFigures) (o : Option ℕ) → (with_latency t o).since ≡ t.since
+since-with_latency : (t : TaskFigures) (o : Option ℕ) → (with_latency t o).waiting_since ≡ t.waiting_since
 since-with_latency t None = refl
 since-with_latency t (Some n) = refl
 
 since-begun_if : (processor at : ℕ) (run : Option ℕ) (s : Figures) (j : ℕ)
-    → (task_in_figures (begun_if processor at run s) j).since ≡ (task_in_figures s j).since
+    → (task_in_figures (begun_if processor at run s) j).waiting_since ≡ (task_in_figures s j).waiting_since
 since-begun_if processor at None s j = refl
-since-begun_if processor at (Some id) s j = task_kept (λ (t : TaskFigures). t.since) s id j _ (since-with_latency (task_in_figures s id) _)
+since-begun_if processor at (Some id) s j = task_kept (λ (t : TaskFigures). t.waiting_since) s id j _ (since-with_latency (task_in_figures s id) _)
 
 -- the start of a task counts what it has waited
 waited-begun_if : (processor at : ℕ) (run : Option ℕ) (s : Figures) (j : ℕ)
@@ -197,7 +197,7 @@ waited-begun_if : (processor at : ℕ) (run : Option ℕ) (s : Figures) (j : ℕ
 waited-begun_if processor at None s j inside h = saturating_sum-none (task_in_figures s j).waited h
 waited-begun_if processor at (Some id) s j inside h =
     set-at (λ t. t.waited) s id j _ (eqb id j) inside (eqb_tells id j)
-    ∙ saturating_sum-at s id j (at - (task_in_figures s id).since) (eqb id j) (eqb_tells id j) h
+    ∙ saturating_sum-at s id j (at - (task_in_figures s id).waiting_since) (eqb id j) (eqb_tells id j) h
 
 -- where there is said to be this number, it is this one
 is_this-shows : (j : ℕ) (o : Option ℕ) → is_this j o ≡ true → o ≡ Some j
@@ -224,26 +224,26 @@ none-preempted Blocked = refl
 -- since when a task waits after a switch, by whether another runs
 since-switched_if : (b : Bool) (reason : StopReason) (processor at : ℕ) (run : Option ℕ) (s : Figures) (j : ℕ)
     → is_run_by (processor_in_figures s processor).running run ≡ b → j < length s.tasks
-    → (task_in_figures (cond b s (started processor at run (stopped reason at (processor_in_figures s processor).running s))) j).since
-    ≡ cond (if_preempted reason (gives_way j (running_task (processor_in_figures s processor)) run)) at (task_in_figures s j).since
+    → (task_in_figures (cond b s (started processor at run (stopped reason at (processor_in_figures s processor).running s))) j).waiting_since
+    ≡ cond (if_preempted reason (gives_way j (running_task (processor_in_figures s processor)) run)) at (task_in_figures s j).waiting_since
 since-switched_if true reason processor at run s j e inside =
     let running = (processor_in_figures s processor).running in
     let same : running_task (processor_in_figures s processor) ≡ run = who_is running run e in
-    sym (ap (λ b. cond (if_preempted reason b) at (task_in_figures s j).since)
+    sym (ap (λ b. cond (if_preempted reason b) at (task_in_figures s j).waiting_since)
     (ap (λ w. is_this j w && not (is_this j run)) same ∙ gives_way-same (is_this j run))
-    ∙ ap (λ b. cond b at (task_in_figures s j).since) (none-preempted reason))
+    ∙ ap (λ b. cond b at (task_in_figures s j).waiting_since) (none-preempted reason))
 since-switched_if false reason processor at run s j e inside =
     let running = (processor_in_figures s processor).running in
     since-begun_if processor at run (stopped reason at running s) j ∙ since-stopped reason at running s j inside
-    ∙ ap (λ b. cond (if_preempted reason b) at (task_in_figures s j).since)
+    ∙ ap (λ b. cond (if_preempted reason b) at (task_in_figures s j).waiting_since)
     (sym (gives_way-new j (running_task (processor_in_figures s processor)) run (is_this j (running_task (processor_in_figures s processor)))
     (is_this j run) refl refl (not_who running run e)))
 
 -- after a switch the task that gave way waits, where it is preempted
 since-switched : (reason : StopReason) (processor at : ℕ) (run : Option ℕ) (s : Figures) (j : ℕ)
     → j < length s.tasks
-    → (task_in_figures (figures_switched reason processor at run s) j).since
-    ≡ cond (if_preempted reason (gives_way j (running_task (processor_in_figures s processor)) run)) at (task_in_figures s j).since
+    → (task_in_figures (figures_switched reason processor at run s) j).waiting_since
+    ≡ cond (if_preempted reason (gives_way j (running_task (processor_in_figures s processor)) run)) at (task_in_figures s j).waiting_since
 since-switched reason processor at run s j inside =
     since-switched_if (is_run_by (processor_in_figures s processor).running run) reason processor at run s j refl inside
 
@@ -273,29 +273,29 @@ waited-switched reason processor at run s j inside h =
 starts-waited_if : (b : Bool) (reason : StopReason) (processor at : ℕ) (run : Option ℕ) (s : Figures) (st : Start)
     → let u = stopped reason at (processor_in_figures s processor).running s in
     cond b None (starts_as processor at run u) ≡ Some st →
-    st.waited ≡ st.at - (task_in_figures (cond b s (started processor at run u)) st.task).since
+    st.waited ≡ st.at - (task_in_figures (cond b s (started processor at run u)) st.task).waiting_since
 starts-waited_if true reason processor at run s st e = cc
 starts-waited_if false reason processor at None s st e = cc
 starts-waited_if false reason processor at (Some id) s st e =
     let u = stopped reason at (processor_in_figures s processor).running s in
     let x : start_of processor id at (task_in_figures u id) ≡ st = cc in
-    let P : Start → Type 0 = λ y. y.waited ≡ y.at - (task_in_figures (started processor at (Some id) u) y.task).since in
+    let P : Start → Type 0 = λ y. y.waited ≡ y.at - (task_in_figures (started processor at (Some id) u) y.task).waiting_since in
     subst P x (ap (λ n. at - n) (sym (since-begun_if processor at (Some id) u id)))
 
 -- a start that a switch tells says how long its task has waited
 starts-waited : (reason : StopReason) (processor at : ℕ) (run : Option ℕ) (s : Figures) (st : Start)
     → start_at reason processor at run s ≡ Some st
-    → st.waited ≡ st.at - (task_in_figures (figures_switched reason processor at run s) st.task).since
+    → st.waited ≡ st.at - (task_in_figures (figures_switched reason processor at run s) st.task).waiting_since
 starts-waited reason processor at run s st e =
     starts-waited_if (is_run_by (processor_in_figures s processor).running run) reason processor at run s st e
 
 -- a pull says how long its task has waited
 pull-waited : (from processor at : ℕ) (task : Option ℕ) (s : Figures) (p : PulledTask)
-    → moves_as from processor at task s ≡ Some p → p.waited ≡ p.at - (task_in_figures s p.task).since
+    → moves_as from processor at task s ≡ Some p → p.waited ≡ p.at - (task_in_figures s p.task).waiting_since
 pull-waited from processor at None s p e = cc
 pull-waited from processor at (Some id) s p e =
     let x : pulled_report from processor at id s ≡ p = cc in
-    let P : PulledTask → Type 0 = λ y. y.waited ≡ y.at - (task_in_figures s y.task).since in
+    let P : PulledTask → Type 0 = λ y. y.waited ≡ y.at - (task_in_figures s y.task).waiting_since in
     subst P x refl
 
 -- when an answer has a task wait, by who ran in the figures
@@ -311,13 +311,13 @@ wait_seen j s e a = None
 
 -- since when a task waits, and how long it has, after an answer; and what that tells
 pub record ReportsWaited (s s' : Figures) (j : ℕ) (seen : Option ℕ) (c : Change) : Type 0 where
-  pub since : (task_in_figures s' j).since ≡ unwrap_or seen (task_in_figures s j).since
+  pub waiting_since : (task_in_figures s' j).waiting_since ≡ unwrap_or seen (task_in_figures s j).waiting_since
   pub waited : (task_in_figures s j).waited ≤ 18446744073709551615 → (task_in_figures s' j).waited ≡ saturating_sum (task_in_figures s j).waited (reported_wait j c)
 
 -- a time that is set on a condition is the one that the condition shows, or the one before
 then-is : (b : Bool) (at since : ℕ) → cond b at since ≡ unwrap_or (then_if b at) since
-then-is true at since = refl
-then-is false at since = refl
+then-is true at waiting_since = refl
+then-is false at waiting_since = refl
 
 -- a placement, and a switch after steps that keep waits, tell the waits that they make:
 placed-reports : (processor now : ℕ) (d : Decision) (id to : ℕ) (s : Figures) (j : ℕ) (c : Change)
@@ -330,8 +330,8 @@ placed-reports processor now d id to s j c inside p st =
     let m = comes id to at a in
     record {
       since =
-          task_kept (λ (t : TaskFigures). t.since) m id j _ refl ∙ since-comes id to at a j (omega (arith, k.tasks))
-          ∙ ap (λ n. cond (eqb id j) at n) (k.since j) ∙ then-is (eqb id j) at (task_in_figures s j).since;
+          task_kept (λ (t : TaskFigures). t.waiting_since) m id j _ refl ∙ since-comes id to at a j (omega (arith, k.tasks))
+          ∙ ap (λ n. cond (eqb id j) at n) (k.waiting_since j) ∙ then-is (eqb id j) at (task_in_figures s j).waiting_since;
       waited = λ h.
           task_kept (λ (t : TaskFigures). t.waited) m id j _ refl ∙ waited-comes id to at a j ∙ k.waited j
           ∙ saturating_sum-none (task_in_figures s j).waited h
@@ -347,10 +347,10 @@ switch-reports : (reason : StopReason) (processor at : ℕ) (run : Option ℕ) (
 switch-reports reason processor at run s t j c inside k r p st =
     let inside' : j < length t.tasks = omega (arith, k.tasks) in
     record {
-      since = since-switched reason processor at run t j inside'
-          ∙ ap (λ n. cond (if_preempted reason (gives_way j (running_task (processor_in_figures t processor)) run)) at n) (k.since j)
-          ∙ ap (λ o. cond (if_preempted reason (gives_way j (option_map (λ (x : Start). x.task) o) run)) at (task_in_figures s j).since) r
-          ∙ then-is (if_preempted reason (gives_way j (running_task (processor_in_figures s processor)) run)) at (task_in_figures s j).since;
+      waiting_since = since-switched reason processor at run t j inside'
+          ∙ ap (λ n. cond (if_preempted reason (gives_way j (running_task (processor_in_figures t processor)) run)) at n) (k.waiting_since j)
+          ∙ ap (λ o. cond (if_preempted reason (gives_way j (option_map (λ (x : Start). x.task) o) run)) at (task_in_figures s j).waiting_since) r
+          ∙ then-is (if_preempted reason (gives_way j (running_task (processor_in_figures s processor)) run)) at (task_in_figures s j).waiting_since;
       waited = λ h.
           waited-switched reason processor at run t j inside' (omega (arith, k.waited j))
           ∙ ap (λ n. saturating_sum n (wait_of_start j (start_at reason processor at run t))) (k.waited j)
@@ -369,10 +369,10 @@ tasks-taken processor at (Some id) s = tasks-comes id processor at (waited_there
 
 -- a time that is set on one condition, and then on another, is set on either
 or-is : (b c : Bool) (at since : ℕ) → cond c at (cond b at since) ≡ cond (b || c) at since
-or-is true true at since = refl
-or-is true false at since = refl
-or-is false true at since = refl
-or-is false false at since = refl
+or-is true true at waiting_since = refl
+or-is true false at waiting_since = refl
+or-is false true at waiting_since = refl
+or-is false false at waiting_since = refl
 
 -- a pull tells the waits that it makes: of the task it takes, and of those that give way and begin
 pulled-reports : (processor from now : ℕ) (d : Decision) (task run : Option ℕ) (s : Figures) (j : ℕ) (c : Change)
@@ -392,11 +392,11 @@ pulled-reports processor from now d task run s j c inside p st =
       since =
           since-switched Preempted processor at run t j inside''
           ∙ ap (λ n. cond (gives_way j (running_task (processor_in_figures t processor)) run) at n)
-          (since-taken processor at task a j inside' ∙ ap (λ n. cond (is_this j task) at n) (k.since j))
-          ∙ ap (λ o. cond (gives_way j (option_map (λ (x : Start). x.task) o) run) at (cond (is_this j task) at (task_in_figures s j).since))
+          (since-taken processor at task a j inside' ∙ ap (λ n. cond (is_this j task) at n) (k.waiting_since j))
+          ∙ ap (λ o. cond (gives_way j (option_map (λ (x : Start). x.task) o) run) at (cond (is_this j task) at (task_in_figures s j).waiting_since))
           (runs-pull processor now d task s processor)
-          ∙ or-is (is_this j task) (gives_way j (running_task (processor_in_figures s processor)) run) at (task_in_figures s j).since
-          ∙ then-is (is_this j task || gives_way j (running_task (processor_in_figures s processor)) run) at (task_in_figures s j).since;
+          ∙ or-is (is_this j task) (gives_way j (running_task (processor_in_figures s processor)) run) at (task_in_figures s j).waiting_since
+          ∙ then-is (is_this j task || gives_way j (running_task (processor_in_figures s processor)) run) at (task_in_figures s j).waiting_since;
       waited = λ h.
           let w : (task_in_figures t j).waited ≡ saturating_sum (task_in_figures s j).waited (wait_of_pull j (moves_as from processor at task a)) =
           waited-taken processor from at task a j inside' (omega (arith, h, k.waited j))
@@ -412,7 +412,7 @@ pulled-reports processor from now d task run s j c inside p st =
 -- where no pull and no start is reported, what changes nothing leaves the waits, and so does what keeps them:
 nothing-reports : (s : Figures) (j : ℕ) (c : Change) → c.pull ≡ None → c.start ≡ None → ReportsWaited s s j None c
 nothing-reports s j c p st = record {
-  since = refl;
+  waiting_since = refl;
   waited = λ h.
       saturating_sum-none (task_in_figures s j).waited h
       ∙ sym (ap (λ o. saturating_sum (task_in_figures s j).waited (wait_of_pull j o + wait_of_start j c.start)) p
@@ -422,7 +422,7 @@ nothing-reports s j c p st = record {
 admitted-reports : (s s' : Figures) (j : ℕ) (c : Change) → KeepsWaits s s' → c.pull ≡ None → c.start ≡ None → ReportsWaited s s' j None c
 admitted-reports s s' j c k p st =
     let n = nothing-reports s j c p st in
-    record { since = k.since j; waited = λ h. k.waited j ∙ n.waited h }
+    record { waiting_since = k.waiting_since j; waited = λ h. k.waited j ∙ n.waited h }
 
 -- each event tells the waits that it makes, by cases:
 performed-reports : (s : Figures) (e : Event) (r : Reply) (j : ℕ)
@@ -441,7 +441,7 @@ performed-reports s (Drain processor now) (Drained count run by steps) j inside 
     switch-reports Preempted processor (time_at processor now s) run s (figures_counted processor d (figures_read processor now s)) j
     (report_of_answer s (Drain processor now) (Drained count run by steps)) inside (kept-counted processor now d s)
     (runs-counted processor now d s processor) refl refl in
-    record { since = t.since; waited = t.waited }
+    record { waiting_since = t.waiting_since; waited = t.waited }
 performed-reports s (Tick processor now) (Ticked run by steps) j inside =
     let d : Decision = record { hook = Preempt; by = by; steps = steps } in
     switch-reports Preempted processor (time_at processor now s) run s (figures_counted processor d (figures_read processor now s)) j
@@ -479,10 +479,10 @@ reports-after : (s : Figures) (e : Event) (a : Result Reply Refusal) (j : ℕ)
 reports-after s e (Ok r) j inside h = reports-if (is_there s e) s e r j refl inside h
 reports-after s (EndWake processor now) (Err r) j inside h =
     let t = nothing-reports s j nothing refl refl in
-    record { since = t.since; waited = t.waited }
+    record { waiting_since = t.waiting_since; waited = t.waited }
 reports-after s e (Err r) j inside h =
     let t = nothing-reports s j nothing refl refl in
-    record { since = t.since; waited = t.waited }
+    record { waiting_since = t.waiting_since; waited = t.waited }
 
 -- the figures' waits are those of the history
 seen-wait : (count : ℕ) (past : History) (e : Event) (a : Result Reply Refusal) (j : ℕ)
@@ -515,17 +515,17 @@ reported-of count past m j h inside =
 
 -- figures show since when each task waits
 since-shown : (count : ℕ) (past : History) (j : ℕ) → IsOfProcessors count past → j < 1024
-    → (task_in_figures (figures count past) j).since ≡ waits_since j past
-since-shown count [] j h inside = ap (λ (t : TaskFigures). t.since) (get_or-replicate 1024 j unknown unknown inside)
+    → (task_in_figures (figures count past) j).waiting_since ≡ waits_since j past
+since-shown count [] j h inside = ap (λ (t : TaskFigures). t.waiting_since) (get_or-replicate 1024 j unknown unknown inside)
 since-shown count (m ∷ past) j h inside =
-    (reported-of count past m j h inside).since
-    ∙ ap (λ o. unwrap_or o (task_in_figures (figures count past) j).since) (seen-wait count past m.event m.answer j h.1 h.0)
+    (reported-of count past m j h inside).waiting_since
+    ∙ ap (λ o. unwrap_or o (task_in_figures (figures count past) j).waiting_since) (seen-wait count past m.event m.answer j h.1 h.0)
     ∙ ap (λ n. unwrap_or (wait_begins j past m.event m.answer) n) (since-shown count past j h.1 inside)
 
 -- a start and a pull say how long their task has waited, by the figures
 start-performed : (s : Figures) (e : Event) (r : Reply) (st : Start)
     → (report_of_answer s e r).start ≡ Some st
-    → st.waited ≡ st.at - (task_in_figures (performed s e r) st.task).since
+    → st.waited ≡ st.at - (task_in_figures (performed s e r) st.task).waiting_since
 start-performed s (EndWake processor now) (Placed task to by steps) st e = cc
 start-performed s (Drain processor now) (Drained count run by steps) st e =
     starts-waited Preempted processor (time_at processor now s) run
@@ -543,18 +543,18 @@ start-performed s e r st h = cc
 
 start-reported_if : (b : Bool) (s : Figures) (e : Event) (r : Reply) (st : Start)
     → (cond b (report_of_answer s e r) nothing).start ≡ Some st
-    → st.waited ≡ st.at - (task_in_figures (cond b (performed s e r) s) st.task).since
+    → st.waited ≡ st.at - (task_in_figures (cond b (performed s e r) s) st.task).waiting_since
 start-reported_if true s e r st h = start-performed s e r st h
 start-reported_if false s e r st h = cc
 
 start-reported : (s : Figures) (e : Event) (a : Result Reply Refusal) (st : Start)
-    → (change s e a).start ≡ Some st → st.waited ≡ st.at - (task_in_figures (figures_after s e a) st.task).since
+    → (change s e a).start ≡ Some st → st.waited ≡ st.at - (task_in_figures (figures_after s e a) st.task).waiting_since
 start-reported s e (Ok r) st h = start-reported_if (is_there s e) s e r st h
 start-reported s e (Err r) st h = cc
 
 -- so does a pull, by the figures before it, by cases:
 pull-performed : (s : Figures) (e : Event) (r : Reply) (p : PulledTask)
-    → (report_of_answer s e r).pull ≡ Some p → p.waited ≡ p.at - (task_in_figures s p.task).since
+    → (report_of_answer s e r).pull ≡ Some p → p.waited ≡ p.at - (task_in_figures s p.task).waiting_since
 pull-performed s (EndWake processor now) (Placed task to by steps) p e = cc
 pull-performed s (Drain processor now) (Drained count run by steps) p e = cc
 pull-performed s (Tick processor now) (Ticked run by steps) p e = cc
@@ -562,16 +562,16 @@ pull-performed s (Block processor now) (Went task run) p e = cc
 pull-performed s (Pull processor from now) (Pulled task run by steps) p e =
     let d : Decision = record { hook = OnPull; by = by; steps = steps } in
     pull-waited from processor (time_at processor now s) task (figures_counted processor d (figures_read processor now s)) p e
-    ∙ ap (λ n. p.at - n) ((kept-counted processor now d s).since p.task)
+    ∙ ap (λ n. p.at - n) ((kept-counted processor now d s).waiting_since p.task)
 pull-performed s e r p h = cc
 
 pull-reported_if : (b : Bool) (s : Figures) (e : Event) (r : Reply) (p : PulledTask)
-    → (cond b (report_of_answer s e r) nothing).pull ≡ Some p → p.waited ≡ p.at - (task_in_figures s p.task).since
+    → (cond b (report_of_answer s e r) nothing).pull ≡ Some p → p.waited ≡ p.at - (task_in_figures s p.task).waiting_since
 pull-reported_if true s e r p h = pull-performed s e r p h
 pull-reported_if false s e r p h = cc
 
 pull-reported : (s : Figures) (e : Event) (a : Result Reply Refusal) (p : PulledTask)
-    → (change s e a).pull ≡ Some p → p.waited ≡ p.at - (task_in_figures s p.task).since
+    → (change s e a).pull ≡ Some p → p.waited ≡ p.at - (task_in_figures s p.task).waiting_since
 pull-reported s e (Ok r) p h = pull-reported_if (is_there s e) s e r p h
 pull-reported s e (Err r) p h = cc
 

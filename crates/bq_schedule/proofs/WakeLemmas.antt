@@ -33,7 +33,7 @@ use Rattle.bq_schedule.proofs.SumLemmas.{tasks-figures}
 
 -- what keeps which wakes are awaited
 pub record KeepsWakes (s s' : Figures) : Type 0 where
-  pub at : (id : ℕ) → (task_in_figures s' id).woken ≡ (task_in_figures s id).woken
+  pub at : (id : ℕ) → (task_in_figures s' id).woken_at ≡ (task_in_figures s id).woken_at
   pub tasks : length s'.tasks ≡ length s.tasks
 
 -- what changes nothing keeps wakes; so do two such steps, a task set with the same wake, and a processor that is set:
@@ -43,8 +43,8 @@ same s = record { at = λ id. refl; tasks = refl }
 both : (s t u : Figures) → KeepsWakes s t → KeepsWakes t u → KeepsWakes s u
 both s t u a b = record { at = λ id. b.at id ∙ a.at id; tasks = b.tasks ∙ a.tasks }
 
-with_one : (s : Figures) (i : ℕ) (t : TaskFigures) → t.woken ≡ (task_in_figures s i).woken → KeepsWakes s (figures_with_task s i t)
-with_one s i t e = record { at = λ id. task_kept (λ (u : TaskFigures). u.woken) s i id t e; tasks = length-set s.tasks i t }
+with_one : (s : Figures) (i : ℕ) (t : TaskFigures) → t.woken_at ≡ (task_in_figures s i).woken_at → KeepsWakes s (figures_with_task s i t)
+with_one s i t e = record { at = λ id. task_kept (λ (u : TaskFigures). u.woken_at) s i id t e; tasks = length-set s.tasks i t }
 
 of_processor : (s : Figures) (i : ℕ) (p : ProcessorFigures) → KeepsWakes s (figures_with_processor s i p)
 of_processor s i p = record { at = λ id. refl; tasks = refl }
@@ -85,18 +85,18 @@ kept-stopped Preempted now (Some old) s = with_one s old.task _ refl
 
 -- a task is set whose wake is one thing or the other
 set-one : (s : Figures) (i j : ℕ) (t : TaskFigures) (b : Bool) → j < length s.tasks → ((b ≡ true) × (i ≡ j)) ⊎ ((b ≡ false) × (i ≢ j)) →
-    (task_in_figures (figures_with_task s i t) j).woken ≡ cond b t.woken (task_in_figures s j).woken
+    (task_in_figures (figures_with_task s i t) j).woken_at ≡ cond b t.woken_at (task_in_figures s j).woken_at
 set-one s i j t true inside (inl e) =
-    ap (λ k. (get_or (slice_set s.tasks k t) j unknown).woken) e.1
-    ∙ ap (λ (u : TaskFigures). u.woken) (get_or-set_same s.tasks j t unknown inside)
+    ap (λ k. (get_or (slice_set s.tasks k t) j unknown).woken_at) e.1
+    ∙ ap (λ (u : TaskFigures). u.woken_at) (get_or-set_same s.tasks j t unknown inside)
 set-one s i j t false inside (inl e) = absurd (cc)
 set-one s i j t true inside (inr e) = absurd (cc)
-set-one s i j t false inside (inr e) = ap (λ (u : TaskFigures). u.woken) (get_or-set_other s.tasks i j t unknown (λ h. e.1 (sym h)))
+set-one s i j t false inside (inr e) = ap (λ (u : TaskFigures). u.woken_at) (get_or-set_other s.tasks i j t unknown (λ h. e.1 (sym h)))
 
 -- a task that begins to run has no wake that awaits a run any more, and the others keep theirs
 woken-begun_if : (processor now : ℕ) (run : Option ℕ) (s : Figures) (j : ℕ)
     → j < length s.tasks
-    → (task_in_figures (begun_if processor now run s) j).woken ≡ cond (is_this j run) None (task_in_figures s j).woken
+    → (task_in_figures (begun_if processor now run s) j).woken_at ≡ cond (is_this j run) None (task_in_figures s j).woken_at
 woken-begun_if processor now None s j inside = refl
 woken-begun_if processor now (Some id) s j inside = set-one s id j _ (eqb id j) inside (eqb_tells id j)
 
@@ -151,19 +151,19 @@ begins-old j (Some start) (Some id) e =
 -- a switch ends the wait of the wake whose task begins to run, and of no other, by whether another runs:
 woken-switched_if : (b : Bool) (reason : StopReason) (processor now : ℕ) (run : Option ℕ) (s : Figures) (j : ℕ)
     → is_run_by (processor_in_figures s processor).running run ≡ b → j < length s.tasks
-    → (task_in_figures (cond b s (started processor now run (stopped reason now (processor_in_figures s processor).running s))) j).woken
-    ≡ cond (begins_as j (running_task (processor_in_figures s processor)) (Some run)) None (task_in_figures s j).woken
+    → (task_in_figures (cond b s (started processor now run (stopped reason now (processor_in_figures s processor).running s))) j).woken_at
+    ≡ cond (begins_as j (running_task (processor_in_figures s processor)) (Some run)) None (task_in_figures s j).woken_at
 woken-switched_if true reason processor now run s j e inside = rw (begins-old j (processor_in_figures s processor).running run e) refl
 woken-switched_if false reason processor now run s j e inside =
     let t = stopped reason now (processor_in_figures s processor).running s in
     let k = kept-stopped reason now (processor_in_figures s processor).running s in
     woken-begun_if processor now run t j (omega (arith, k.tasks)) ∙ ap (λ o. cond (is_this j run) None o) (k.at j)
-    ∙ ap (λ b. cond b None (task_in_figures s j).woken) (sym (begins-new j (processor_in_figures s processor).running run e))
+    ∙ ap (λ b. cond b None (task_in_figures s j).woken_at) (sym (begins-new j (processor_in_figures s processor).running run e))
 
 woken-switched : (reason : StopReason) (processor now : ℕ) (run : Option ℕ) (s : Figures) (j : ℕ)
     → j < length s.tasks
-    → (task_in_figures (figures_switched reason processor now run s) j).woken
-    ≡ cond (begins_as j (running_task (processor_in_figures s processor)) (Some run)) None (task_in_figures s j).woken
+    → (task_in_figures (figures_switched reason processor now run s) j).woken_at
+    ≡ cond (begins_as j (running_task (processor_in_figures s processor)) (Some run)) None (task_in_figures s j).woken_at
 woken-switched reason processor now run s j inside =
     woken-switched_if (is_run_by (processor_in_figures s processor).running run) reason processor now run s j refl inside
 
@@ -179,7 +179,7 @@ begins_seen j s (Some x) = begins_as j (running_task (processor_in_figures s x.p
 
 -- the wake that figures show after an event
 abbrev pub AwaitsAfter : ℕ → Figures → Figures → Event → Result Reply Refusal → Type 0
-AwaitsAfter j s s' e a = (task_in_figures s' j).woken ≡ awaited_after (wake_seen j s e a) (begins_seen j s (sight_of e a)) (task_in_figures s j).woken
+AwaitsAfter j s s' e a = (task_in_figures s' j).woken_at ≡ awaited_after (wake_seen j s e a) (begins_seen j s (sight_of e a)) (task_in_figures s j).woken_at
 
 -- after a placement the placed task has its new wake, and each other the wake it had:
 awaits-placed : (b : Bool) (at : ℕ) (before : Option ℕ) → cond b (Some at) before ≡ awaited_after (cond b (Some at) None) false before
@@ -188,8 +188,8 @@ awaits-placed false at before = refl
 
 placed-awaits : (processor now : ℕ) (d : Decision) (id to : ℕ) (s : Figures) (j : ℕ)
     → j < length s.tasks
-    → (task_in_figures (placed processor now d id to s) j).woken
-    ≡ awaited_after (cond (eqb id j) (Some (time_at processor now s)) None) false (task_in_figures s j).woken
+    → (task_in_figures (placed processor now d id to s) j).woken_at
+    ≡ awaited_after (cond (eqb id j) (Some (time_at processor now s)) None) false (task_in_figures s j).woken_at
 placed-awaits processor now d id to s j inside =
     let at = time_at processor now s in
     let r = figures_read processor now s in
@@ -198,16 +198,16 @@ placed-awaits processor now d id to s j inside =
     let k : KeepsWakes s c = both s r c (kept-read_at processor now s) (both r a c (of_processor r processor _) (kept-comes id to at a)) in
     set-one c id j _ (eqb id j) (omega (arith, k.tasks)) (eqb_tells id j)
     ∙ ap (λ o. cond (eqb id j) (Some at) o) (k.at j)
-    ∙ awaits-placed (eqb id j) at (task_in_figures s j).woken
+    ∙ awaits-placed (eqb id j) at (task_in_figures s j).woken_at
 
 -- after moves that keep wakes and who runs
 switched-awaits : (reason : StopReason) (processor now : ℕ) (run : Option ℕ) (s t : Figures) (j : ℕ)
     → j < length s.tasks → KeepsWakes s t → (processor_in_figures t processor).running ≡ (processor_in_figures s processor).running
-    → (task_in_figures (figures_switched reason processor now run t) j).woken
-    ≡ cond (begins_as j (running_task (processor_in_figures s processor)) (Some run)) None (task_in_figures s j).woken
+    → (task_in_figures (figures_switched reason processor now run t) j).woken_at
+    ≡ cond (begins_as j (running_task (processor_in_figures s processor)) (Some run)) None (task_in_figures s j).woken_at
 switched-awaits reason processor now run s t j inside k r =
     woken-switched reason processor now run t j (omega (arith, k.tasks))
-    ∙ ap (λ o. cond (begins_as j (option_map (λ (x : Start). x.task) o) (Some run)) None (task_in_figures t j).woken) r
+    ∙ ap (λ o. cond (begins_as j (option_map (λ (x : Start). x.task) o) (Some run)) None (task_in_figures t j).woken_at) r
     ∙ ap (λ o. cond (begins_as j (running_task (processor_in_figures s processor)) (Some run)) None o) (k.at j)
 
 -- a decision that is counted after a reading keeps wakes
@@ -223,8 +223,8 @@ runs-counted processor now d s j = (running-counted processor d (figures_read pr
 -- a decision ends the wait of the wake whose task begins to run, and of no other
 decided-awaits : (processor now : ℕ) (d : Decision) (run : Option ℕ) (s : Figures) (j : ℕ)
     → j < length s.tasks
-    → (task_in_figures (figures_decided processor now d run s) j).woken
-    ≡ cond (begins_as j (running_task (processor_in_figures s processor)) (Some run)) None (task_in_figures s j).woken
+    → (task_in_figures (figures_decided processor now d run s) j).woken_at
+    ≡ cond (begins_as j (running_task (processor_in_figures s processor)) (Some run)) None (task_in_figures s j).woken_at
 decided-awaits processor now d run s j inside =
     switched-awaits Preempted processor (time_at processor now s) run s _ j inside (kept-counted processor now d s)
     (runs-counted processor now d s processor)
@@ -241,8 +241,8 @@ runs-block processor now id s j = (running-leaves id (figures_read processor now
 -- a block ends the wait of the wake whose task begins to run, and of no other
 blocked-awaits : (processor now id : ℕ) (run : Option ℕ) (s : Figures) (j : ℕ)
     → j < length s.tasks
-    → (task_in_figures (blocked processor now id run s) j).woken
-    ≡ cond (begins_as j (running_task (processor_in_figures s processor)) (Some run)) None (task_in_figures s j).woken
+    → (task_in_figures (blocked processor now id run s) j).woken_at
+    ≡ cond (begins_as j (running_task (processor_in_figures s processor)) (Some run)) None (task_in_figures s j).woken_at
 blocked-awaits processor now id run s j inside =
     switched-awaits Blocked processor (time_at processor now s) run s _ j inside (kept-block processor now id s)
     (runs-block processor now id s processor)
@@ -265,8 +265,8 @@ runs-pull processor now d task s j =
 -- a pull ends the wait of the wake whose task begins to run, and of no other
 pulled-awaits : (processor now : ℕ) (d : Decision) (task run : Option ℕ) (s : Figures) (j : ℕ)
     → j < length s.tasks
-    → (task_in_figures (figures_pulled processor now d task run s) j).woken
-    ≡ cond (begins_as j (running_task (processor_in_figures s processor)) (Some run)) None (task_in_figures s j).woken
+    → (task_in_figures (figures_pulled processor now d task run s) j).woken_at
+    ≡ cond (begins_as j (running_task (processor_in_figures s processor)) (Some run)) None (task_in_figures s j).woken_at
 pulled-awaits processor now d task run s j inside =
     switched-awaits Preempted processor (time_at processor now s) run s _ j inside (kept-pull processor now d task s)
     (runs-pull processor now d task s processor)
@@ -322,14 +322,14 @@ seen-begins count past (Some x) j h w = ap (λ y. begins_as j y x.run) (figures-
 
 -- figures show the wakes that are awaited
 awaits : (count : ℕ) (past : History) (j : ℕ) → IsOfProcessors count past → j < 1024
-    → (task_in_figures (figures count past) j).woken ≡ awaited j past
-awaits count [] j h inside = ap (λ (t : TaskFigures). t.woken) (get_or-replicate 1024 j unknown unknown inside)
+    → (task_in_figures (figures count past) j).woken_at ≡ awaited j past
+awaits count [] j h inside = ap (λ (t : TaskFigures). t.woken_at) (get_or-replicate 1024 j unknown unknown inside)
 awaits count (m ∷ past) j h inside =
     let s = figures count past in
     let o = sight_of m.event m.answer in
     awaits-after s m.event m.answer j (omega (arith, tasks-figures count past h.1)) (within-figures count past m h)
-    ∙ ap (λ w. awaited_after w (begins_seen j s o) (task_in_figures s j).woken) (seen-wake count past m.event m.answer j h.1 h.0)
-    ∙ ap (λ b. awaited_after (wake_end j past m.event m.answer) b (task_in_figures s j).woken) (seen-begins count past o j h.1 h.0)
+    ∙ ap (λ w. awaited_after w (begins_seen j s o) (task_in_figures s j).woken_at) (seen-wake count past m.event m.answer j h.1 h.0)
+    ∙ ap (λ b. awaited_after (wake_end j past m.event m.answer) b (task_in_figures s j).woken_at) (seen-begins count past o j h.1 h.0)
     ∙ ap (λ before. awaited_after (wake_end j past m.event m.answer) (begins_run j past o) before) (awaits count past j h.1 inside)
 
 -- a start at a processor, at a reading of its clock
@@ -337,7 +337,7 @@ pub record Starts (s : Figures) (processor now : ℕ) (run : Option ℕ) (start 
   pub here : start.processor ≡ processor
   pub new : begins_as start.task (running_task (processor_in_figures s processor)) (Some run) ≡ true
   pub reading : start.at ≡ time_at processor now s
-  pub late : start.latency ≡ option_map (λ (woken : ℕ). start.at - woken) (task_in_figures s start.task).woken
+  pub late : start.latency ≡ option_map (λ (woken : ℕ). start.at - woken) (task_in_figures s start.task).woken_at
 
 -- a start that a switch tells is of a task that begins to run, with its latency since its wake, by cases:
 starts_by : (s u : Figures) (processor now : ℕ) (run : Option ℕ) (start : Start)

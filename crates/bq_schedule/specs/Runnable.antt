@@ -8,12 +8,12 @@ use Rattle.bq_schedule.specs.Figures.{Figures, processor_in_figures, task_in_fig
 
 -- the share that a task has had at its processor since it came
 abbrev pub pending : ProcessorFigures → TaskFigures → ℕ
-pending p t = min (t.weight * (p.shared - t.joined)) (2 ^ 128 - 1)
+pending p t = min (t.weight * (p.shared - t.shared_at_arrival)) (2 ^ 128 - 1)
 
 -- the fair time of a task, in parts: what it got at all processors where it was before, and what it got where it is
 abbrev pub fair_at : Figures → TaskFigures → Option ℕ → ℕ
-fair_at s t None = t.accrued
-fair_at s t (Some processor) = counted_wide t.accrued (pending (processor_in_figures s processor) t)
+fair_at s t None = t.earlier_fair_time
+fair_at s t (Some processor) = counted_wide t.earlier_fair_time (pending (processor_in_figures s processor) t)
 
 -- the fair time of the task with this id, in parts
 abbrev pub fair_of : Figures → ℕ → ℕ
@@ -26,7 +26,7 @@ undrained_at s processor drains = None
 
 -- the processor on which the task with this id was placed, if that processor has not drained its inbox since
 abbrev pub undrained : Figures → ℕ → Option ℕ
-undrained s id = let t = task_in_figures s id in undrained_at s t.processor t.drains
+undrained s id = let t = task_in_figures s id in undrained_at s t.processor t.drains_when_placed
 
 -- a processor's figures after a task of this weight left
 abbrev pub processor_left : ProcessorFigures → ℕ → ProcessorFigures
@@ -42,7 +42,7 @@ left_from id s None = s
 left_from id s (Some processor) =
     let t = task_in_figures s id in
     figures_with_task (figures_with_processor s processor (processor_left (processor_in_figures s processor) t.weight)) id
-    (record t { accrued = fair_at s t (Some processor); processor = None; drains = None })
+    (record t { earlier_fair_time = fair_at s t (Some processor); processor = None; drains_when_placed = None })
 
 -- a task is no longer runnable, if it was
 abbrev pub figures_left : ℕ → Figures → Figures
@@ -54,7 +54,7 @@ joins id processor now s =
     let t = task_in_figures s id in
     let p = processor_in_figures s processor in
     figures_with_task (figures_with_processor s processor (processor_joined p t.weight)) id
-    (record t { processor = Some processor; since = now; joined = p.shared })
+    (record t { processor = Some processor; waiting_since = now; shared_at_arrival = p.shared })
 
 -- a task becomes runnable here, and nowhere else
 abbrev pub comes : ℕ → ℕ → ℕ → Figures → Figures

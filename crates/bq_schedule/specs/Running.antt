@@ -23,7 +23,7 @@ is_run_by running run = false
 -- the start of a task: how long it has waited, and how long ago its wake ended if it has not run since
 abbrev pub start_of : ℕ → ℕ → ℕ → TaskFigures → Start
 start_of processor id now t =
-    record { processor = processor; task = id; at = now; waited = now - t.since; latency = option_map (λ (woken : ℕ). now - woken) t.woken; before = t.before }
+    record { processor = processor; task = id; at = now; waited = now - t.waiting_since; latency = option_map (λ (woken : ℕ). now - woken) t.woken_at; before = t.last_processor }
 
 -- the task ran at another processor before
 abbrev pub is_elsewhere : Option ℕ → ℕ → Bool
@@ -38,23 +38,23 @@ has_migrated s = is_elsewhere s.before s.processor
 abbrev pub with_latency : TaskFigures → Option ℕ → TaskFigures
 with_latency t None = t
 with_latency t (Some n) =
-    record t { latencies = saturating_sum t.latencies 1; latency = saturating_sum t.latency n; greatest_latency = max t.greatest_latency n }
+    record t { latency_count = saturating_sum t.latency_count 1; latency_sum = saturating_sum t.latency_sum n; greatest_latency = max t.greatest_latency n }
 
 -- a task's figures after it started running
 abbrev pub task_started : TaskFigures → Start → TaskFigures
 task_started t s =
     record (with_latency t s.latency) {
       waited = saturating_sum t.waited s.waited;
-      woken = None;
-      drains = None;
-      before = Some s.processor;
+      woken_at = None;
+      drains_when_placed = None;
+      last_processor = Some s.processor;
       switches = saturating_sum t.switches 1;
       migrations = saturating_sum t.migrations (if has_migrated s then 1 else 0);
     }
 
 -- a task's figures after it was preempted: it waits from now on
 abbrev pub task_preempted : TaskFigures → ℕ → TaskFigures
-task_preempted t now = record t { since = now; preemptions = saturating_sum t.preemptions 1 }
+task_preempted t now = record t { waiting_since = now; preemptions = saturating_sum t.preemptions 1 }
 
 -- the task that ran stops, if there was one: it waits from now on if it was preempted
 abbrev pub stopped : StopReason → ℕ → Option Start → Figures → Figures

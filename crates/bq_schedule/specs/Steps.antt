@@ -72,13 +72,13 @@ figures_admitted id nice s = figures_with_task s id (record (task_in_figures s i
 abbrev pub figures_woken : ℕ → ℕ → ℕ → Figures → Figures
 figures_woken id processor now s =
     let t = task_in_figures s id in
-    figures_with_task s id (record t { wakes = saturating_sum t.wakes 1; woken = Some now; drains = Some (processor_in_figures s processor).drains })
+    figures_with_task s id (record t { wakes = saturating_sum t.wakes 1; woken_at = Some now; drains_when_placed = Some (processor_in_figures s processor).drains })
 
 -- the figures after a task's wait was counted where it was
 abbrev pub waited_there : ℕ → ℕ → Figures → Figures
 waited_there id now s =
     let t = task_in_figures s id in
-    figures_with_task s id (record t { waited = saturating_sum t.waited (now - t.since) })
+    figures_with_task s id (record t { waited = saturating_sum t.waited (now - t.waiting_since) })
 
 -- the figures after a processor drained its inbox
 abbrev pub emptied : ℕ → Figures → Figures
@@ -91,7 +91,7 @@ figures_taken processor now (Some id) s = comes id processor now (waited_there i
 
 -- what is reported of a task that is pulled
 abbrev pub pulled_report : ℕ → ℕ → ℕ → ℕ → Figures → PulledTask
-pulled_report from to at id s = record { task = id; from = from; to = to; at = at; waited = at - (task_in_figures s id).since }
+pulled_report from to at id s = record { task = id; from = from; to = to; at = at; waited = at - (task_in_figures s id).waiting_since }
 
 -- what is reported of the task that is pulled, if one is
 abbrev pub moves_as : ℕ → ℕ → ℕ → Option ℕ → Figures → Option PulledTask

@@ -17,17 +17,17 @@ pub struct TaskFigures {
     /// The processor at which the task is runnable: the task was placed or pulled there, and has not gone to sleep since.
     pub processor: Option<u8>,
     /// When the task's last wait began: it was placed, preempted or pulled then.
-    pub since: u64,
+    pub waiting_since: u64,
     /// When the task's last wake ended, if the task has not run since.
-    pub woken: Option<u64>,
+    pub woken_at: Option<u64>,
     /// How many drains the processor had made when the task was placed there, if the task has neither run nor been pulled since.
-    pub drains: Option<u64>,
+    pub drains_when_placed: Option<u64>,
     /// The processor where the task ran last.
-    pub before: Option<u8>,
+    pub last_processor: Option<u8>,
     /// How much the processor had given to each unit of weight when the task came there.
-    pub joined: u128,
+    pub shared_at_arrival: u128,
     /// The task's fair time at all processors where it was runnable before this one, in parts of a nanosecond.
-    pub accrued: u128,
+    pub earlier_fair_time: u128,
 
     /// How long the task ran, in nanoseconds: the sum of its slices.
     pub time: u64,
@@ -36,9 +36,9 @@ pub struct TaskFigures {
     /// How often the task was woken.
     pub wakes: u64,
     /// After how many of these wakes the task has run.
-    pub latencies: u64,
+    pub latency_count: u64,
     /// The sum of these latencies from wake to run, in nanoseconds.
-    pub latency: u64,
+    pub latency_sum: u64,
     /// The greatest of these latencies.
     pub greatest_latency: u64,
     /// How often the task started running.
@@ -61,17 +61,17 @@ impl TaskFigures {
             nice: 0,
             weight: 0,
             processor: None,
-            since: 0,
-            woken: None,
-            drains: None,
-            before: None,
-            joined: 0,
-            accrued: 0,
+            waiting_since: 0,
+            woken_at: None,
+            drains_when_placed: None,
+            last_processor: None,
+            shared_at_arrival: 0,
+            earlier_fair_time: 0,
             time: 0,
             waited: 0,
             wakes: 0,
-            latencies: 0,
-            latency: 0,
+            latency_count: 0,
+            latency_sum: 0,
             greatest_latency: 0,
             switches: 0,
             preemptions: 0,

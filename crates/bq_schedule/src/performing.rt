@@ -233,10 +233,10 @@ impl Schedule {
     /// Counts how long a task has waited where it is, and returns that time in nanoseconds.
     fn count_wait(&mut self, id: u16, now: u64) -> u64
         ensures figures { self.new ≡ waited_there id now self.old }
-        ensures waited { result ≡ now - (task_in_figures self.old id).since }
+        ensures waited { result ≡ now - (task_in_figures self.old id).waiting_since }
     {
         let mut task = self.task(id);
-        let waited = now.saturating_sub(task.since);
+        let waited = now.saturating_sub(task.waiting_since);
         task.waited = task.waited.saturating_add(waited);
         self.set_task(id, task);
         waited
@@ -249,8 +249,8 @@ impl Schedule {
         let drains = self.processor(processor).drains;
         let mut task = self.task(id);
         task.wakes = task.wakes.saturating_add(1);
-        task.woken = Some(now);
-        task.drains = Some(drains);
+        task.woken_at = Some(now);
+        task.drains_when_placed = Some(drains);
         self.set_task(id, task);
     }
 }

@@ -12,9 +12,9 @@ impl Schedule {
     {
         match task.processor {
             Some(processor) => task
-                .accrued
+                .earlier_fair_time
                 .saturating_add(self.processor(processor).pending(task)),
-            None => task.accrued,
+            None => task.earlier_fair_time,
         }
     }
 
@@ -26,9 +26,9 @@ impl Schedule {
         let Some(processor) = task.processor else {
             return;
         };
-        task.accrued = self.fair_of(&task);
+        task.earlier_fair_time = self.fair_of(&task);
         task.processor = None;
-        task.drains = None;
+        task.drains_when_placed = None;
         let mut figures = self.processor(processor);
         figures.leave(task.weight);
         self.set_processor(processor, figures);
@@ -42,8 +42,8 @@ impl Schedule {
         let mut task = self.task(id);
         let mut figures = self.processor(processor);
         task.processor = Some(processor);
-        task.since = now;
-        task.joined = figures.shared;
+        task.waiting_since = now;
+        task.shared_at_arrival = figures.shared;
         figures.join(task.weight);
         self.set_processor(processor, figures);
         self.set_task(id, task);
@@ -63,7 +63,7 @@ impl ProcessorFigures {
     fn pending(&self, task: &TaskFigures) -> u128
         ensures { result ≡ pending self.now task.now }
     {
-        u128::from(task.weight).saturating_mul(self.shared.saturating_sub(task.joined))
+        u128::from(task.weight).saturating_mul(self.shared.saturating_sub(task.shared_at_arrival))
     }
 
     /// Takes away a task of this weight: it is no longer runnable here.

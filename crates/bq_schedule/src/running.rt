@@ -95,7 +95,7 @@ impl TaskFigures {
     fn starting(&self, processor: u8, at: u64, task: u16) -> Start
         ensures { result ≡ start_of processor task at self.now }
     {
-        let latency = match self.woken {
+        let latency = match self.woken_at {
             Some(woken) => Some(at.saturating_sub(woken)),
             None => None,
         };
@@ -103,9 +103,9 @@ impl TaskFigures {
             processor,
             task,
             at,
-            waited: at.saturating_sub(self.since),
+            waited: at.saturating_sub(self.waiting_since),
             latency,
-            before: self.before,
+            before: self.last_processor,
         }
     }
 
@@ -116,9 +116,9 @@ impl TaskFigures {
         self.count_latency(start.latency);
         self.migrations = count_if(self.migrations, start.has_migrated());
         self.waited = self.waited.saturating_add(start.waited);
-        self.woken = None;
-        self.drains = None;
-        self.before = Some(start.processor);
+        self.woken_at = None;
+        self.drains_when_placed = None;
+        self.last_processor = Some(start.processor);
         self.switches = self.switches.saturating_add(1);
     }
 
@@ -129,8 +129,8 @@ impl TaskFigures {
         let Some(latency) = latency else {
             return;
         };
-        self.latencies = self.latencies.saturating_add(1);
-        self.latency = self.latency.saturating_add(latency);
+        self.latency_count = self.latency_count.saturating_add(1);
+        self.latency_sum = self.latency_sum.saturating_add(latency);
         self.greatest_latency = self.greatest_latency.max(latency);
     }
 
@@ -138,7 +138,7 @@ impl TaskFigures {
     fn preempt(&mut self, now: u64)
         ensures { self.new ≡ task_preempted self.old now }
     {
-        self.since = now;
+        self.waiting_since = now;
         self.preemptions = self.preemptions.saturating_add(1);
     }
 }

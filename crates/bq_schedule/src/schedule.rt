@@ -104,7 +104,7 @@ impl Schedule {
     {
         let task = self.task(id);
         let processor = task.processor?;
-        let drains = task.drains?;
+        let drains = task.drains_when_placed?;
         if self.processor(processor).drains == drains {
             Some(processor)
         } else {
