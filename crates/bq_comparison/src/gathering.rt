@@ -58,7 +58,7 @@ impl Sink for Gatherer {
                 let Some(schedule) = &mut self.schedule else {
                     return Ok(());
                 };
-                let change = schedule.take(event, answer);
+                let change = schedule.add_answer(event, answer);
                 self.latencies.take(&change)
             }
             TraceEvent::Skipped { .. }

@@ -12,7 +12,7 @@ use std::alloc::AllocError;
 /// // for each event that admits a task:
 /// form.admit(task)?;
 /// // for each event and its answer:
-/// let change = schedule.take(&event, &answer);
+/// let change = schedule.add_answer(&event, &answer);
 /// form.take(&change, &schedule, &names, &mut text)?;
 /// // once the trace is over:
 /// form.end(&schedule, &names, &mut text)?;

@@ -31,7 +31,7 @@ impl Schedule {
             figures.running,
         );
         let run = ended_run(figures.run, slice);
-        figures.pass(reading.current, slice);
+        figures.advance_clock(reading.current, slice);
         self.charge(slice);
         (reading, slice, run)
     }
@@ -88,7 +88,7 @@ impl ProcessorFigures {
     }
 
     /// Sets the clock to a reading, and charges a slice, if there is one: shares its time out among the runnable tasks.
-    fn pass(&mut self, to: u64, slice: Option<Slice>)
+    fn advance_clock(&mut self, to: u64, slice: Option<Slice>)
         ensures { self.new ≡ passed self.old to slice }
     {
         let length = length_of(slice);

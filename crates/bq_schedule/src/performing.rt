@@ -111,7 +111,7 @@ impl Schedule {
         let (reading, slice, ended) = self.read(processor, now);
         let at = reading.current;
         self.count_decision(processor, &decision);
-        self.come(id, to, at);
+        self.move_to(id, to, at);
         self.wake(id, to, at);
         Change {
             reading: Some(reading),
@@ -199,7 +199,7 @@ impl Schedule {
         let (reading, slice, ended) = self.read(processor, now);
         let at = reading.current;
         self.count_decision(processor, &decision);
-        let pull = self.take_over(task, from, processor, at);
+        let pull = self.move_pulled(task, from, processor, at);
         let (stop, start) = self.switch(StopReason::Preempted, processor, at, run);
         Change {
             reading: Some(reading),
@@ -214,13 +214,13 @@ impl Schedule {
     }
 
     /// Moves a task that is pulled, if there is one: counts its wait so far, and lets it wait again at its new processor.
-    fn take_over(&mut self, task: Option<u16>, from: u8, to: u8, at: u64) -> Option<PulledTask>
+    fn move_pulled(&mut self, task: Option<u16>, from: u8, to: u8, at: u64) -> Option<PulledTask>
         ensures figures { self.new ≡ figures_taken to at task self.old }
         ensures reported { result ≡ moves_as from to at task self.old }
     {
         let id = task?;
         let waited = self.count_wait(id, at);
-        self.come(id, to, at);
+        self.move_to(id, to, at);
         Some(PulledTask {
             task: id,
             from,

@@ -30,13 +30,13 @@ impl Schedule {
         task.processor = None;
         task.drains_when_placed = None;
         let mut figures = self.processor(processor);
-        figures.leave(task.weight);
+        figures.remove_task(task.weight);
         self.set_processor(processor, figures);
         self.set_task(id, task);
     }
 
     /// Lets a task that is not runnable become runnable at a processor now.
-    fn join(&mut self, id: u16, processor: u8, now: u64)
+    fn arrive(&mut self, id: u16, processor: u8, now: u64)
         ensures { self.new ≡ joins id processor now self.old }
     {
         let mut task = self.task(id);
@@ -44,17 +44,17 @@ impl Schedule {
         task.processor = Some(processor);
         task.waiting_since = now;
         task.shared_at_arrival = figures.shared;
-        figures.join(task.weight);
+        figures.add_task(task.weight);
         self.set_processor(processor, figures);
         self.set_task(id, task);
     }
 
     /// Lets a task become runnable at a processor, and nowhere else.
-    pub(crate) fn come(&mut self, id: u16, processor: u8, now: u64)
+    pub(crate) fn move_to(&mut self, id: u16, processor: u8, now: u64)
         ensures { self.new ≡ comes id processor now self.old }
     {
         self.leave(id);
-        self.join(id, processor, now);
+        self.arrive(id, processor, now);
     }
 }
 
@@ -67,7 +67,7 @@ impl ProcessorFigures {
     }
 
     /// Takes away a task of this weight: it is no longer runnable here.
-    fn leave(&mut self, weight: u32)
+    fn remove_task(&mut self, weight: u32)
         ensures { self.new ≡ processor_left self.old weight }
     {
         self.runnable = self.runnable.saturating_sub(1);
@@ -75,7 +75,7 @@ impl ProcessorFigures {
     }
 
     /// Adds a task of this weight: it is runnable here from now on.
-    fn join(&mut self, weight: u32)
+    fn add_task(&mut self, weight: u32)
         ensures { self.new ≡ processor_joined self.old weight }
     {
         self.runnable = self.runnable.saturating_add(1);

@@ -54,9 +54,9 @@ impl Schedule {
         })
     }
 
-    /// Takes an event and its answer, and reports what they changed. A refused event is counted, and changes nothing else. An event
-    /// also changes nothing if its answer is not of its kind, or if it names a processor that does not exist.
-    pub fn take(&mut self, event: &Event, answer: &Result<Reply, Refusal>) -> Change
+    /// Adds an event and its answer to the schedule, and returns what they changed. A refused event is counted, and changes nothing
+    /// else. An event also changes nothing if its answer is not of its kind, or if it names a processor that does not exist.
+    pub fn add_answer(&mut self, event: &Event, answer: &Result<Reply, Refusal>) -> Change
         ensures figures { self.new ≡ figures_after self.old event.now answer.now }
         ensures change { result ≡ change self.old event.now answer.now }
     {

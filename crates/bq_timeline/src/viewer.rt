@@ -100,7 +100,7 @@ impl Viewer {
         let Some(schedule) = &mut self.schedule else {
             return Ok(());
         };
-        let change = schedule.take(event, answer);
+        let change = schedule.add_answer(event, answer);
         self.screen
             .answered(number, event, answer, machine, &change, schedule)
     }

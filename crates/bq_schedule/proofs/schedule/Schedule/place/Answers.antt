@@ -10,8 +10,8 @@ pub returns-clause-figures : goal.returns-clause-figures
 returns-clause-figures c =
     let x = c.args in
     let at = c.read-slice.result.0.current in
-    let came : c.come.new.self ≡ comes x.id x.to at (figures_counted x.processor x.decision (figures_read x.processor x.now x.self.now)) =
-    c.come.ensures
+    let came : c.move_to.new.self ≡ comes x.id x.to at (figures_counted x.processor x.decision (figures_read x.processor x.now x.self.now)) =
+    c.move_to.ensures
     ∙ ap (λ (f : Figures). comes x.id x.to at f)
     (c.count_decision.ensures ∙ ap (λ (f : Figures). figures_counted x.processor x.decision f) c.read-slice.ensures.figures) in
     let is : at ≡ time_at x.processor x.now x.self.now = ap (λ (r : ClockReading). r.current) c.read-slice.ensures.reading in
