@@ -5,8 +5,8 @@ use Rattle.std.proofs.lemmas.Bool.Decides.{eqb_tells, nat_tests}
 use Rattle.std.proofs.lemmas.List.Elements.{filter-append, All-nil, All-push, All-head, All-tail, All-weaker}
 use Rattle.bq_disc.specs.OneProcessor.{reading}
 use Rattle.bq_schedule.specs.declared.slice.Slice.{Slice}
-use Rattle.bq_schedule.specs.Moments.{History}
-use Rattle.bq_schedule.specs.Slices.{Sight, sight_of, clock_after, clock, runner, slice_of, slice_shown, slices, is_slice_at, StandApart, slices_at}
+use Rattle.bq_schedule.specs.Histories.{History}
+use Rattle.bq_schedule.specs.Slices.{ShownByAnswer, shown_by_answer, clock_after, clock, runner, slice_of, slice_shown, slices, is_slice_at, StandApart, slices_at}
 
 -- slices that end by some time
 abbrev pub EndBy : ℕ → List Slice → Type 0
@@ -60,8 +60,8 @@ rises : (b : Bool) (c now : ℕ) → c ≤ cond b (reading c now) c
 rises true c now = omega arith
 rises false c now = omega arith
 
--- what a moment ends at a processor begins at its last reading, and ends by the next
-next_at : (x : Sight) (past : History) (processor : ℕ) (who : Option ℕ) (b e : Bool)
+-- what an answered event ends at a processor begins at its last reading, and ends by the next
+next_at : (x : ShownByAnswer) (past : History) (processor : ℕ) (who : Option ℕ) (b e : Bool)
     → ltb (clock x.processor past) (reading (clock x.processor past) x.now) ≡ b
     → ((e ≡ true) × (x.processor ≡ processor)) ⊎ ((e ≡ false) × (x.processor ≢ processor)) → eqb x.processor processor ≡ e
     → IsNext (clock processor past) (cond e (reading (clock processor past) x.now) (clock processor past))
@@ -75,8 +75,8 @@ next_at x past processor (Some id) false e lt t is = rw lt (rises e (clock proce
 next_at x past processor (Some id) true true lt (inr other) is = absurd (cc)
 next_at x past processor (Some id) true false lt (inl same) is = absurd (cc)
 
--- so does the slice that a sight shows, if it shows one there
-next_shown : (past : History) (processor : ℕ) (o : Option Sight)
+-- so does the slice that an answer shows, if it shows one there
+next_shown : (past : History) (processor : ℕ) (o : Option ShownByAnswer)
     → IsNext (clock processor past) (clock_after processor (clock processor past) o) (at_only processor (slice_shown past o))
 next_shown past processor None = omega arith
 next_shown past processor (Some x) =
@@ -88,7 +88,7 @@ pub stand_apart : (past : History) (processor : ℕ)
     → StandApart (slices_at processor past) × All (λ (s : Slice). s.to ≤ clock processor past) (slices_at processor past)
 stand_apart [] processor = (tt, All-nil (λ (s : Slice). s.to ≤ 0))
 stand_apart (m ∷ past) processor =
-    let o = sight_of m.event m.answer in
+    let o = shown_by_answer m.event m.answer in
     let is : slices_at processor (m ∷ past) ≡ slices_at processor past ++ option_to_list (at_only processor (slice_shown past o)) =
     filter-append (is_slice_at processor) (slices past) (option_to_list (slice_shown past o))
     ∙ ap (λ ys. slices_at processor past ++ ys) (filter-one processor (slice_shown past o)) in

@@ -15,18 +15,18 @@ use Rattle.bq_schedule.specs.declared.change.Decision.{Decision}
 use Rattle.bq_schedule.specs.declared.change.Start.{Start}
 use Rattle.bq_schedule.specs.declared.change.StopReason.TheVariants.{Preempted, Blocked}
 use Rattle.bq_schedule.specs.declared.figures.ProcessorFigures.{ProcessorFigures}
-use Rattle.bq_schedule.specs.Moments.{Moment, History}
+use Rattle.bq_schedule.specs.Histories.{AnsweredEvent, History}
 use Rattle.bq_schedule.specs.Figures.{Figures, opening_figures, unread, processor_in_figures}
 use Rattle.bq_schedule.specs.Passing.{figures_read, processor_read}
 use Rattle.bq_schedule.specs.Runnable.{figures_left, comes}
 use Rattle.bq_schedule.specs.Running.{running_task, figures_switched}
-use Rattle.bq_schedule.specs.Slices.{Sight, sight, sight_of, clock_after, clock, runner_after, runner}
+use Rattle.bq_schedule.specs.Slices.{ShownByAnswer, shown_by_reply, shown_by_answer, clock_after, clock, runner_after, runner}
 use Rattle.bq_schedule.specs.Steps.{figures_counted, figures_taken, emptied, figures_decided, placed, blocked, figures_pulled, performed, time_at, is_there, figures_after, figures}
-use Rattle.bq_schedule.specs.Laws.{IsSightWithin, IsOfProcessors}
+use Rattle.bq_schedule.specs.Laws.{IsShownWithin, IsOfProcessors}
 use Rattle.bq_schedule.proofs.FrameLemmas.{Works, KeepsWorks, KeepsRunning, RunsAs, works-then, works-id, works-with_task, works-with_processor, works-counted, works-leaves, works-comes, works-taken, works-switched, running-then, running-id, running-with_task, running-with_processor, running-counted, running-leaves, running-comes, running-taken, running-read_at, runs-after, runs-before, runs-switched, count-read_at, processors-read_at}
 
 -- what a reply does: the clock is read that it shows, and nothing else of the works changes; and it runs who it says
-abbrev pub Shows : Figures → Figures → Option Sight → Type 0
+abbrev pub Shows : Figures → Figures → Option ShownByAnswer → Type 0
 Shows s s' None = KeepsWorks s s' × KeepsRunning s s'
 Shows s s' (Some x) = KeepsWorks (figures_read x.processor x.now s) s' × RunsAs x.run x.processor s s'
 
@@ -105,7 +105,7 @@ shows-admitted : (id : ℕ) (s : Figures) (t : Figures) → KeepsWorks (figures_
 shows-admitted id s t a b = (works-then s (figures_left id s) t (works-leaves id s) a, running-then s (figures_left id s) t (running-leaves id s) b)
 
 -- a reply to an event whose processor is there does to the works, and to who runs, what it shows
-pub shows-performed : (s : Figures) (e : Event) (r : Reply) → is_there s e ≡ true → Shows s (performed s e r) (sight e r)
+pub shows-performed : (s : Figures) (e : Event) (r : Reply) → is_there s e ≡ true → Shows s (performed s e r) (shown_by_reply e r)
 shows-performed s (Admit id nice mask slice) Admitted there =
     shows-admitted id s _ (works-with_task (figures_left id s) id _ refl) (running-with_task (figures_left id s) id _)
 shows-performed s (EndWake processor now) (Placed task to by steps) there =
@@ -128,8 +128,8 @@ pub not_below : (a b : ℕ) → ltb a b ≡ false → a < b → ⊥
 not_below a b e h = grind (arith, nat_tests)
 
 -- where the event's processor is not there, nothing is shown of one that is
-shows-nothing : (s : Figures) (e : Event) (r : Reply) → is_there s e ≡ false → IsSightWithin (length s.processors) (sight e r)
-    → Shows s s (sight e r)
+shows-nothing : (s : Figures) (e : Event) (r : Reply) → is_there s e ≡ false → IsShownWithin (length s.processors) (shown_by_reply e r)
+    → Shows s s (shown_by_reply e r)
 shows-nothing s (EndWake processor now) (Placed task to by steps) none h = absurd (not_below processor (length s.processors) none h)
 shows-nothing s (Drain processor now) (Drained count run by steps) none h = absurd (not_below processor (length s.processors) none h)
 shows-nothing s (Tick processor now) (Ticked run by steps) none h = absurd (not_below processor (length s.processors) none h)
@@ -138,29 +138,29 @@ shows-nothing s (Pull processor from now) (Pulled task run by steps) none h = ab
 shows-nothing s e r none h = (works-id s, running-id s)
 
 -- a reply does what it shows, whether or not its processor is there
-shows-if : (b : Bool) (s : Figures) (e : Event) (r : Reply) → is_there s e ≡ b → IsSightWithin (length s.processors) (sight e r)
-    → Shows s (cond b (performed s e r) s) (sight e r)
+shows-if : (b : Bool) (s : Figures) (e : Event) (r : Reply) → is_there s e ≡ b → IsShownWithin (length s.processors) (shown_by_reply e r)
+    → Shows s (cond b (performed s e r) s) (shown_by_reply e r)
 shows-if true s e r there h = shows-performed s e r there
 shows-if false s e r there h = shows-nothing s e r there h
 
 -- each answer does to the works, and to who runs, what it shows
 pub shows-after : (s : Figures) (e : Event) (a : Result Reply Refusal)
-    → IsSightWithin (length s.processors) (sight_of e a) → Shows s (figures_after s e a) (sight_of e a)
+    → IsShownWithin (length s.processors) (shown_by_answer e a) → Shows s (figures_after s e a) (shown_by_answer e a)
 shows-after s e (Ok r) h = shows-if (is_there s e) s e r refl h
 shows-after s e (Err r) h = (record { at = λ j. refl; count = refl; tasks = refl; times = λ id. refl }, record { at = λ j. refl })
 
 -- how many processors there are stays
-count-shown : (s s' : Figures) (o : Option Sight) → Shows s s' o → length s'.processors ≡ length s.processors
+count-shown : (s s' : Figures) (o : Option ShownByAnswer) → Shows s s' o → length s'.processors ≡ length s.processors
 count-shown s s' None h = h.0.count
 count-shown s s' (Some x) h = h.0.count ∙ count-read_at x.processor x.now s
 
 -- after an event and its answer there are as many processors as before
 pub count-after : (s : Figures) (e : Event) (a : Result Reply Refusal)
-    → IsSightWithin (length s.processors) (sight_of e a) → length (figures_after s e a).processors ≡ length s.processors
-count-after s e a h = count-shown s (figures_after s e a) (sight_of e a) (shows-after s e a h)
+    → IsShownWithin (length s.processors) (shown_by_answer e a) → length (figures_after s e a).processors ≡ length s.processors
+count-after s e a h = count-shown s (figures_after s e a) (shown_by_answer e a) (shows-after s e a h)
 
 -- what is shown of one of this many processors is so for the same number
-pub within_same : (n k : ℕ) (o : Option Sight) → n ≡ k → IsSightWithin k o → IsSightWithin n o
+pub within_same : (n k : ℕ) (o : Option ShownByAnswer) → n ≡ k → IsShownWithin k o → IsShownWithin n o
 within_same n k o e h = rw e h
 
 -- the figures of a history have as many processors as its world
@@ -170,10 +170,10 @@ count-figures count (m ∷ past) h =
     let before : length (figures count past).processors ≡ count = count-figures count past h.1 in
     count-after (figures count past) m.event m.answer (within_same _ _ _ before h.0) ∙ before
 
--- the moment is within what the figures before it have
-pub within-figures : (count : ℕ) (past : History) (m : Moment)
+-- the answered event is within what the figures before it have
+pub within-figures : (count : ℕ) (past : History) (m : AnsweredEvent)
     → IsOfProcessors count (m ∷ past)
-    → IsSightWithin (length (figures count past).processors) (sight_of m.event m.answer)
+    → IsShownWithin (length (figures count past).processors) (shown_by_answer m.event m.answer)
 within-figures count past m h = within_same _ _ _ (count-figures count past h.1) h.0
 
 -- a reading at one processor leaves the works of the others
@@ -210,7 +210,7 @@ last-same processor now j s true (inr other) = absurd (cc)
 last-same processor now j s false (inr other) = refl
 
 -- the last reading of each clock is the one that is shown
-pub last-shown : (s s' : Figures) (o : Option Sight) (j : ℕ) → j < length s.processors → Shows s s' o
+pub last-shown : (s s' : Figures) (o : Option ShownByAnswer) (j : ℕ) → j < length s.processors → Shows s s' o
     → (processor_in_figures s' j).last ≡ clock_after j (processor_in_figures s j).last o
 last-shown s s' None j inside h = ap (λ (w : Works). w.last) (h.0.at j)
 last-shown s s' (Some x) j inside h =
@@ -230,8 +230,8 @@ running_task-at (Some run) s s' processor j false (inl same) h = absurd (cc)
 running_task-at (Some run) s s' processor j true (inr other) h = absurd (cc)
 running_task-at (Some run) s s' processor j false (inr other) h = ap (option_map (λ (x : Start). x.task)) (h.1 j (λ e. other.1 (sym e)))
 
--- who runs is who the sight of an event says
-pub running_task-shown : (s s' : Figures) (o : Option Sight) (j : ℕ)
+-- who runs is who the answer of an event says
+pub running_task-shown : (s s' : Figures) (o : Option ShownByAnswer) (j : ℕ)
     → Shows s s' o → running_task (processor_in_figures s' j) ≡ runner_after j (running_task (processor_in_figures s j)) o
 running_task-shown s s' None j h = ap (option_map (λ (x : Start). x.task)) (h.1.at j)
 running_task-shown s s' (Some x) j h = running_task-at x.run s s' x.processor j (eqb x.processor j) (eqb_tells x.processor j) h.1
@@ -251,7 +251,7 @@ figures-clocks count [] processor h inside = (
 )
 figures-clocks count (m ∷ past) processor h inside =
     let s = figures count past in
-    let o = sight_of m.event m.answer in
+    let o = shown_by_answer m.event m.answer in
     let before = figures-clocks count past processor h.1 inside in
     let inside' : processor < length s.processors = omega (arith, count-figures count past h.1) in
     let shown : Shows s (figures_after s m.event m.answer) o = shows-after s m.event m.answer (within-figures count past m h) in (

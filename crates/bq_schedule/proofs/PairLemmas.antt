@@ -9,14 +9,14 @@ use Rattle.bq_schedule.specs.declared.change.Start.{Start}
 use Rattle.bq_schedule.specs.declared.change.Stop.{Stop}
 use Rattle.bq_schedule.specs.declared.change.StopReason.{StopReason}
 use Rattle.bq_schedule.specs.declared.figures.ProcessorFigures.{ProcessorFigures}
-use Rattle.bq_schedule.specs.Moments.{History}
+use Rattle.bq_schedule.specs.Histories.{History}
 use Rattle.bq_schedule.specs.Figures.{Figures, unread, processor_in_figures}
 use Rattle.bq_schedule.specs.Running.{starts_as, stop_of, is_run_by}
-use Rattle.bq_schedule.specs.Slices.{Sight, sight_of}
+use Rattle.bq_schedule.specs.Slices.{ShownByAnswer, shown_by_answer}
 use Rattle.bq_schedule.specs.Steps.{time_at, change, figures}
 use Rattle.bq_schedule.specs.Switches.{why_left, is_start_at, is_stop_at, reported_starts, reported_stops, starts_reported_at, stops_reported_at}
-use Rattle.bq_schedule.specs.Laws.{IsSightWithin, IsOfProcessors, EndsStarts}
-use Rattle.bq_schedule.proofs.SwitchLemmas.{Switches, ReportsRunning, ReportsSwitch, start_if, stop_if, begun-here, moment_reports, runs_here}
+use Rattle.bq_schedule.specs.Laws.{IsShownWithin, IsOfProcessors, EndsStarts}
+use Rattle.bq_schedule.proofs.SwitchLemmas.{Switches, ReportsRunning, ReportsSwitch, start_if, stop_if, begun-here, answer_reports, runs_here}
 
 -- starts and stops of one processor, of at most one
 filter-starts : (j : ℕ) (o : Option Start) → ((st : Start) → o ≡ Some st → st.processor ≡ j)
@@ -117,10 +117,10 @@ is_inside : (count i j processor : ℕ) → (i ≡ j) ⊎ (i ≡ processor) → 
 is_inside count i j processor (inl e) a b = omega arith
 is_inside count i j processor (inr e) a b = omega arith
 
--- each moment of a history pairs starts and stops at each processor
-pairs-shown : (count : ℕ) (past : History) (s' : Figures) (e : Event) (o : Option Sight) (stop : Option Stop)
+-- each answered event of a history pairs starts and stops at each processor
+pairs-shown : (count : ℕ) (past : History) (s' : Figures) (e : Event) (o : Option ShownByAnswer) (stop : Option Stop)
     (start : Option Start) (j : ℕ)
-    → IsOfProcessors count past → IsSightWithin count o → j < count → ReportsSwitch (figures count past) s' e o stop start
+    → IsOfProcessors count past → IsShownWithin count o → j < count → ReportsSwitch (figures count past) s' e o stop start
     → Pairs j (processor_in_figures (figures count past) j).running (processor_in_figures s' j).running stop start
 pairs-shown count past s' e None stop start j h w inside t =
     pairs-none j (processor_in_figures (figures count past) j).running
@@ -130,7 +130,7 @@ pairs-shown count past s' e (Some x) stop start j h w inside t =
     pairs-run (figures count past) s' (why_left e) x.processor (time_at x.processor x.now (figures count past)) x.run stop
     start j t (λ i st which is. runs_here count past h i st (is_inside count i j x.processor which inside w) is)
 
--- starts and stops that pair up to a moment, and at that moment, pair together
+-- starts and stops that pair up to an answered event, and at that answered event, pair together
 grown-pairs : (a r f r' : List Start) (b g : List Stop) → a ≡ map (λ (sp : Stop). sp.start) b ++ r
     → r ++ f ≡ map (λ (sp : Stop). sp.start) g ++ r'
     → a ++ f ≡ map (λ (sp : Stop). sp.start) (b ++ g) ++ r'
@@ -156,6 +156,6 @@ ends_starts count (m ∷ past) processor h inside =
     (filter (is_start_at processor) (option_to_list c.start))
     (option_to_list (processor_in_figures (figures count (m ∷ past)) processor).running) (stops_reported_at count processor past)
     (filter (is_stop_at processor) (option_to_list c.stop)) (ends_starts count past processor h.1 inside)
-    (pairs-shown count past (figures count (m ∷ past)) m.event (sight_of m.event m.answer) c.stop c.start processor h.1
-    h.0 inside (moment_reports count past m h))
+    (pairs-shown count past (figures count (m ∷ past)) m.event (shown_by_answer m.event m.answer) c.stop c.start processor h.1
+    h.0 inside (answer_reports count past m h))
     ∙ ap (λ l. map (λ (sp : Stop). sp.start) l ++ option_to_list (processor_in_figures (figures count (m ∷ past)) processor).running) (sym stops)

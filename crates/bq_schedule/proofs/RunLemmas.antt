@@ -12,12 +12,12 @@ use Rattle.bq_parts.specs.declared.reply.Reply.TheVariants.{Placed, Drained, Tic
 use Rattle.bq_parts.specs.declared.refusal.Refusal.{Refusal}
 use Rattle.bq_schedule.specs.declared.slice.Slice.{Slice}
 use Rattle.bq_schedule.specs.declared.figures.ProcessorFigures.{ProcessorFigures}
-use Rattle.bq_schedule.specs.Moments.{History}
+use Rattle.bq_schedule.specs.Histories.{History}
 use Rattle.bq_schedule.specs.Figures.{Figures, unread, processor_in_figures}
 use Rattle.bq_schedule.specs.Passing.{continues_run, slice_at, joined_run, ended_run, processor_read}
-use Rattle.bq_schedule.specs.Slices.{Sight, sight, sight_of, runner, slice_of, slice_shown, slices, slices_at, is_slice_at, slice_joined, runs}
+use Rattle.bq_schedule.specs.Slices.{ShownByAnswer, shown_by_reply, shown_by_answer, runner, slice_of, slice_shown, slices, slices_at, is_slice_at, slice_joined, runs}
 use Rattle.bq_schedule.specs.Steps.{report_of_answer, change, nothing, is_there, figures_after, figures}
-use Rattle.bq_schedule.specs.Laws.{IsSightWithin, IsOfProcessors, reported_if, reported_runs, ReportsRuns}
+use Rattle.bq_schedule.specs.Laws.{IsShownWithin, IsOfProcessors, reported_if, reported_runs, ReportsRuns}
 use Rattle.bq_schedule.proofs.FrameLemmas.{Works}
 use Rattle.bq_schedule.proofs.ClockLemmas.{Shows, shows-after, count-figures, within-figures, processor-read_at, not_below}
 use Rattle.bq_schedule.proofs.SliceTimeLemmas.{slice_seen, shown-seen}
@@ -108,12 +108,12 @@ more reported (Some r) (Some y) xs h = record {
 }
 
 -- the run that is reported with a slice
-abbrev pub run_seen : Figures → Option Sight → Option Slice
+abbrev pub run_seen : Figures → Option ShownByAnswer → Option Slice
 run_seen s None = None
 run_seen s (Some x) = ended_run (processor_in_figures s x.processor).run (slice_at x.processor (processor_in_figures s x.processor) x.now)
 
--- the run that is reported of an event is the one that its sight ends, by cases:
-seen-performed : (s : Figures) (e : Event) (r : Reply) → (report_of_answer s e r).run ≡ run_seen s (sight e r)
+-- the run that is reported of an event is the one that its answer ends, by cases:
+seen-performed : (s : Figures) (e : Event) (r : Reply) → (report_of_answer s e r).run ≡ run_seen s (shown_by_reply e r)
 seen-performed s (EndWake processor now) (Placed task to by steps) = refl
 seen-performed s (Drain processor now) (Drained count run by steps) = refl
 seen-performed s (Tick processor now) (Ticked run by steps) = refl
@@ -121,8 +121,8 @@ seen-performed s (Block processor now) (Blocked task run) = refl
 seen-performed s (Pull processor from now) (Pulled task run by steps) = refl
 seen-performed s e r = refl
 
-seen-nothing : (s : Figures) (e : Event) (r : Reply) → is_there s e ≡ false → IsSightWithin (length s.processors) (sight e r)
-    → None ≡ run_seen s (sight e r)
+seen-nothing : (s : Figures) (e : Event) (r : Reply) → is_there s e ≡ false → IsShownWithin (length s.processors) (shown_by_reply e r)
+    → None ≡ run_seen s (shown_by_reply e r)
 seen-nothing s (EndWake processor now) (Placed task to by steps) none h = absurd (not_below processor (length s.processors) none h)
 seen-nothing s (Drain processor now) (Drained count run by steps) none h = absurd (not_below processor (length s.processors) none h)
 seen-nothing s (Tick processor now) (Ticked run by steps) none h = absurd (not_below processor (length s.processors) none h)
@@ -130,18 +130,18 @@ seen-nothing s (Block processor now) (Blocked task run) none h = absurd (not_bel
 seen-nothing s (Pull processor from now) (Pulled task run by steps) none h = absurd (not_below processor (length s.processors) none h)
 seen-nothing s e r none h = refl
 
-seen-if : (b : Bool) (s : Figures) (e : Event) (r : Reply) → is_there s e ≡ b → IsSightWithin (length s.processors) (sight e r)
-    → (cond b (report_of_answer s e r) nothing).run ≡ run_seen s (sight e r)
+seen-if : (b : Bool) (s : Figures) (e : Event) (r : Reply) → is_there s e ≡ b → IsShownWithin (length s.processors) (shown_by_reply e r)
+    → (cond b (report_of_answer s e r) nothing).run ≡ run_seen s (shown_by_reply e r)
 seen-if true s e r there h = seen-performed s e r
 seen-if false s e r there h = seen-nothing s e r there h
 
 seen-change : (s : Figures) (e : Event) (a : Result Reply Refusal)
-    → IsSightWithin (length s.processors) (sight_of e a) → (change s e a).run ≡ run_seen s (sight_of e a)
+    → IsShownWithin (length s.processors) (shown_by_answer e a) → (change s e a).run ≡ run_seen s (shown_by_answer e a)
 seen-change s e (Ok r) h = seen-if (is_there s e) s e r refl h
 seen-change s e (Err r) h = refl
 
--- what a moment ends at a processor, and which run it makes there
-run-there : (s s' : Figures) (x : Sight) (j : ℕ) (b : Bool) → eqb x.processor j ≡ b → j < length s.processors → Shows s s' (Some x) →
+-- what an answered event ends at a processor, and which run it makes there
+run-there : (s s' : Figures) (x : ShownByAnswer) (j : ℕ) (b : Bool) → eqb x.processor j ≡ b → j < length s.processors → Shows s s' (Some x) →
     (processor_in_figures s' j).run ≡ cond b (joined_run (processor_in_figures s x.processor).run (slice_seen s (Some x))) (processor_in_figures s j).run
 run-there s s' x j true e inside h =
     let q = processor_read x.processor (processor_in_figures s x.processor) x.now in
@@ -183,9 +183,9 @@ same_runs reported reported' run run' xs xs' t r x h = record {
   first = λ e. t ∙ h.first (sym r ∙ e);
 }
 
--- after a moment with a sight, the reported runs of a processor and the one that may go on are those of its slices
-reported-there : (count : ℕ) (past : History) (processor : ℕ) (s' : Figures) (x : Sight) (run : Option Slice) (b : Bool)
-    → IsOfProcessors count past → IsSightWithin count (Some x) → processor < count → Shows (figures count past) s' (Some x)
+-- after an answered event that shows a processor, the reported runs of a processor and the one that may go on are those of its slices
+reported-there : (count : ℕ) (past : History) (processor : ℕ) (s' : Figures) (x : ShownByAnswer) (run : Option Slice) (b : Bool)
+    → IsOfProcessors count past → IsShownWithin count (Some x) → processor < count → Shows (figures count past) s' (Some x)
     → run ≡ run_seen (figures count past) (Some x) → eqb x.processor processor ≡ b
     → ((b ≡ true) × (x.processor ≡ processor)) ⊎ ((b ≡ false) × (x.processor ≢ processor))
     → AreReportedRuns count processor past
@@ -213,9 +213,9 @@ reported-there count past processor s' x run false h w inside k is e (inr other)
 reported-there count past processor s' x run true h w inside k is e (inr other) t = absurd (cc)
 reported-there count past processor s' x run false h w inside k is e (inl same) t = absurd (cc)
 
--- so they are after each moment, with a sight or without
-reported-step : (count : ℕ) (past : History) (processor : ℕ) (s' : Figures) (o : Option Sight) (run : Option Slice)
-    → IsOfProcessors count past → IsSightWithin count o → processor < count → Shows (figures count past) s' o
+-- so they are after each answered event, whether it shows a processor or not
+reported-step : (count : ℕ) (past : History) (processor : ℕ) (s' : Figures) (o : Option ShownByAnswer) (run : Option Slice)
+    → IsOfProcessors count past → IsShownWithin count o → processor < count → Shows (figures count past) s' o
     → run ≡ run_seen (figures count past) o → AreReportedRuns count processor past
     → AreRuns (reported_runs count processor past ++ reported_if processor o run) (processor_in_figures s' processor).run
     (slices_at processor past ++ option_to_list (at_only processor (slice_shown past o)))
@@ -235,7 +235,7 @@ reported count [] processor h inside =
     record { all = ap (λ o. [] ++ option_to_list o) none; first = λ e. refl }
 reported count (m ∷ past) processor h inside =
     let s = figures count past in
-    let o = sight_of m.event m.answer in
+    let o = shown_by_answer m.event m.answer in
     let w = within-figures count past m h in
     let is : slices_at processor (m ∷ past) ≡ slices_at processor past ++ option_to_list (at_only processor (slice_shown past o)) =
     filter-append (is_slice_at processor) (slices past) (option_to_list (slice_shown past o))

@@ -1,4 +1,4 @@
--- The slice that is reported of each moment is the one that it ends, by who runs in its history.
+-- The slice that is reported of each answered event is the one that it ends, by who runs in its history.
 use Rattle.std.proofs.Common.{◌≡◌, ℕ, Bool, true, false, ◌∷◌, ◌++◌, length, Option, Some, None, Result, Ok, Err, refl, sym, ap, ◌∙◌, cond}
 use Rattle.std.specs.Prelude.{option_to_list}
 use Rattle.std.specs.Option.{option_map}
@@ -10,22 +10,22 @@ use Rattle.bq_parts.specs.declared.reply.Reply.TheVariants.{Placed, Drained, Tic
 use Rattle.bq_parts.specs.declared.refusal.Refusal.{Refusal}
 use Rattle.bq_schedule.specs.declared.slice.Slice.{Slice}
 use Rattle.bq_schedule.specs.declared.change.Start.{Start}
-use Rattle.bq_schedule.specs.Moments.{Moment, History}
+use Rattle.bq_schedule.specs.Histories.{AnsweredEvent, History}
 use Rattle.bq_schedule.specs.Figures.{Figures, processor_in_figures}
 use Rattle.bq_schedule.specs.Passing.{slice_between, slice_at}
 use Rattle.bq_schedule.specs.Running.{running_task}
-use Rattle.bq_schedule.specs.Slices.{Sight, sight, sight_of, clock, slice_of, slice_shown, slices}
+use Rattle.bq_schedule.specs.Slices.{ShownByAnswer, shown_by_reply, shown_by_answer, clock, slice_of, slice_shown, slices}
 use Rattle.bq_schedule.specs.Steps.{report_of_answer, change, nothing, is_there, figures}
-use Rattle.bq_schedule.specs.Laws.{IsSightWithin, IsOfProcessors}
+use Rattle.bq_schedule.specs.Laws.{IsShownWithin, IsOfProcessors}
 use Rattle.bq_schedule.proofs.ClockLemmas.{figures-clocks, within-figures, not_below}
 
 -- the slice that figures show
-abbrev pub slice_seen : Figures → Option Sight → Option Slice
+abbrev pub slice_seen : Figures → Option ShownByAnswer → Option Slice
 slice_seen s None = None
 slice_seen s (Some x) = slice_at x.processor (processor_in_figures s x.processor) x.now
 
--- the slice that is reported of an event is the one that figures show of its sight, by cases:
-seen-performed : (s : Figures) (e : Event) (r : Reply) → (report_of_answer s e r).slice ≡ slice_seen s (sight e r)
+-- the slice that is reported of an event is the one that figures show of its answer, by cases:
+seen-performed : (s : Figures) (e : Event) (r : Reply) → (report_of_answer s e r).slice ≡ slice_seen s (shown_by_reply e r)
 seen-performed s (EndWake processor now) (Placed task to by steps) = refl
 seen-performed s (Drain processor now) (Drained count run by steps) = refl
 seen-performed s (Tick processor now) (Ticked run by steps) = refl
@@ -33,8 +33,8 @@ seen-performed s (Block processor now) (Blocked task run) = refl
 seen-performed s (Pull processor from now) (Pulled task run by steps) = refl
 seen-performed s e r = refl
 
-seen-nothing : (s : Figures) (e : Event) (r : Reply) → is_there s e ≡ false → IsSightWithin (length s.processors) (sight e r)
-    → None ≡ slice_seen s (sight e r)
+seen-nothing : (s : Figures) (e : Event) (r : Reply) → is_there s e ≡ false → IsShownWithin (length s.processors) (shown_by_reply e r)
+    → None ≡ slice_seen s (shown_by_reply e r)
 seen-nothing s (EndWake processor now) (Placed task to by steps) none h = absurd (not_below processor (length s.processors) none h)
 seen-nothing s (Drain processor now) (Drained count run by steps) none h = absurd (not_below processor (length s.processors) none h)
 seen-nothing s (Tick processor now) (Ticked run by steps) none h = absurd (not_below processor (length s.processors) none h)
@@ -42,13 +42,13 @@ seen-nothing s (Block processor now) (Blocked task run) none h = absurd (not_bel
 seen-nothing s (Pull processor from now) (Pulled task run by steps) none h = absurd (not_below processor (length s.processors) none h)
 seen-nothing s e r none h = refl
 
-seen-if : (b : Bool) (s : Figures) (e : Event) (r : Reply) → is_there s e ≡ b → IsSightWithin (length s.processors) (sight e r)
-    → (cond b (report_of_answer s e r) nothing).slice ≡ slice_seen s (sight e r)
+seen-if : (b : Bool) (s : Figures) (e : Event) (r : Reply) → is_there s e ≡ b → IsShownWithin (length s.processors) (shown_by_reply e r)
+    → (cond b (report_of_answer s e r) nothing).slice ≡ slice_seen s (shown_by_reply e r)
 seen-if true s e r there h = seen-performed s e r
 seen-if false s e r there h = seen-nothing s e r there h
 
 seen-change : (s : Figures) (e : Event) (a : Result Reply Refusal)
-    → IsSightWithin (length s.processors) (sight_of e a) → (change s e a).slice ≡ slice_seen s (sight_of e a)
+    → IsShownWithin (length s.processors) (shown_by_answer e a) → (change s e a).slice ≡ slice_seen s (shown_by_answer e a)
 seen-change s e (Ok r) h = seen-if (is_there s e) s e r refl h
 seen-change s e (Err r) h = refl
 
@@ -58,9 +58,9 @@ slice_of-is : (processor from to : ℕ) (running : Option Start)
 slice_of-is processor from to None = refl
 slice_of-is processor from to (Some start) = refl
 
--- the slice that figures show of a sight is the one that their history shows
-pub shown-seen : (count : ℕ) (past : History) (o : Option Sight)
-    → IsOfProcessors count past → IsSightWithin count o → slice_seen (figures count past) o ≡ slice_shown past o
+-- the slice that figures show of an answer is the one that their history shows
+pub shown-seen : (count : ℕ) (past : History) (o : Option ShownByAnswer)
+    → IsOfProcessors count past → IsShownWithin count o → slice_seen (figures count past) o ≡ slice_shown past o
 shown-seen count past None h w = refl
 shown-seen count past (Some x) h w =
     let c = figures-clocks count past x.processor h w in
@@ -69,16 +69,16 @@ shown-seen count past (Some x) h w =
     ∙ ap (λ n. slice_of x.processor (running_task p) n (reading n x.now)) c.0
     ∙ ap (λ y. slice_of x.processor y (clock x.processor past) (reading (clock x.processor past) x.now)) c.1
 
--- the slice that is reported of a moment is the one that it ends
-pub slice-reported : (count : ℕ) (past : History) (m : Moment)
+-- the slice that is reported of an answered event is the one that it ends
+pub slice-reported : (count : ℕ) (past : History) (m : AnsweredEvent)
     → IsOfProcessors count (m ∷ past)
-    → (change (figures count past) m.event m.answer).slice ≡ slice_shown past (sight_of m.event m.answer)
+    → (change (figures count past) m.event m.answer).slice ≡ slice_shown past (shown_by_answer m.event m.answer)
 slice-reported count past m h =
     seen-change (figures count past) m.event m.answer (within-figures count past m h)
-    ∙ shown-seen count past (sight_of m.event m.answer) h.1 h.0
+    ∙ shown-seen count past (shown_by_answer m.event m.answer) h.1 h.0
 
--- the slices up to a moment are those before it, and then the one that is reported of it
-pub slices-reported : (count : ℕ) (past : History) (m : Moment)
+-- the slices up to an answered event are those before it, and then the one that is reported of it
+pub slices-reported : (count : ℕ) (past : History) (m : AnsweredEvent)
     → IsOfProcessors count (m ∷ past)
     → slices (m ∷ past) ≡ slices past ++ option_to_list (change (figures count past) m.event m.answer).slice
 slices-reported count past m h = ap (λ o. slices past ++ option_to_list o) (sym (slice-reported count past m h))

@@ -12,12 +12,12 @@ use Rattle.bq_schedule.specs.declared.change.Start.{Start}
 use Rattle.bq_schedule.specs.declared.figures.ProcessorFigures.{ProcessorFigures}
 use Rattle.bq_schedule.specs.declared.figures.TaskFigures.{TaskFigures}
 use Rattle.bq_disc.specs.Counts.{saturating_sum}
-use Rattle.bq_schedule.specs.Moments.{Moment, History}
+use Rattle.bq_schedule.specs.Histories.{AnsweredEvent, History}
 use Rattle.bq_schedule.specs.Figures.{Figures, unread, unknown, processor_in_figures, task_in_figures, figures_with_processor, figures_with_task}
 use Rattle.bq_schedule.specs.Passing.{slice_between, slice_at, slice_length, figures_read, processor_read, with_charged, task_charged}
-use Rattle.bq_schedule.specs.Slices.{Sight, sight_of, clock_after, clock, slice_shown, slices, time_if, time_in, is_of, is_slice_at}
+use Rattle.bq_schedule.specs.Slices.{ShownByAnswer, shown_by_answer, clock_after, clock, slice_shown, slices, time_if, time_in, is_of, is_slice_at}
 use Rattle.bq_schedule.specs.Steps.{figures_after, figures}
-use Rattle.bq_schedule.specs.Laws.{IsSightWithin, IsOfProcessors}
+use Rattle.bq_schedule.specs.Laws.{IsShownWithin, IsOfProcessors}
 use Rattle.bq_schedule.proofs.FrameLemmas.{Works, KeepsWorks, tasks-read_at, processors-read_at}
 use Rattle.bq_schedule.proofs.SliceTimeLemmas.{slice_seen, shown-seen}
 use Rattle.bq_schedule.proofs.ClockLemmas.{Shows, figures-clocks, shows-after, count-figures, within-figures, processor-read_at}
@@ -101,8 +101,8 @@ clocks-read_at processor now s inside =
 clocks-kept : (s t : Figures) → KeepsWorks s t → clocks_of t ≡ clocks_of s
 clocks-kept s t h = sums_alike last_of t.processors s.processors h.count (λ j. ap (λ (w : Works). w.last) (h.at j))
 
--- a moment raises all clocks together by no less than its slice
-clocks-shown : (s s' : Figures) (o : Option Sight) → IsSightWithin (length s.processors) o → Shows s s' o
+-- an answered event raises all clocks together by no less than its slice
+clocks-shown : (s s' : Figures) (o : Option ShownByAnswer) → IsShownWithin (length s.processors) o → Shows s s' o
     → clocks_of s + time_of any (slice_seen s o) ≤ clocks_of s'
 clocks-shown s s' None w h = omega (arith, clocks-kept s s' h.0)
 clocks-shown s s' (Some x) w h = omega (arith, clocks-kept (figures_read x.processor x.now s) s' h.0, clocks-read_at x.processor x.now s w)
@@ -112,7 +112,7 @@ slices-le-clocks : (count : ℕ) (past : History) → IsOfProcessors count past 
 slices-le-clocks count [] h = omega arith
 slices-le-clocks count (m ∷ past) h =
     let s = figures count past in
-    let o = sight_of m.event m.answer in
+    let o = shown_by_answer m.event m.answer in
     let w = within-figures count past m h in
     omega (
       arith,
@@ -122,19 +122,19 @@ slices-le-clocks count (m ∷ past) h =
       ap (time_of any) (shown-seen count past o h.1 h.0),
     )
 
--- each clock stays below 2^48, by a reading, by a moment, and in each history:
+-- each clock stays below 2^48, by a reading, by an answered event, and in each history:
 short_if : (b : Bool) (last now : ℕ) → last ≤ 281474976710655 → cond b (reading last now) last ≤ 281474976710655
 short_if true last now h = omega arith
 short_if false last now h = h
 
-short_after : (processor last : ℕ) (o : Option Sight) → last ≤ 281474976710655 → clock_after processor last o ≤ 281474976710655
+short_after : (processor last : ℕ) (o : Option ShownByAnswer) → last ≤ 281474976710655 → clock_after processor last o ≤ 281474976710655
 short_after processor last None h = h
 short_after processor last (Some x) h = short_if (eqb x.processor processor) last x.now h
 
 clock-is-short : (processor : ℕ) (past : History) → clock processor past ≤ 281474976710655
 clock-is-short processor [] = omega arith
 clock-is-short processor (m ∷ past) =
-    short_after processor (clock processor past) (sight_of m.event m.answer) (clock-is-short processor past)
+    short_after processor (clock processor past) (shown_by_answer m.event m.answer) (clock-is-short processor past)
 
 -- all clocks together stay below 2^64
 pub clocks-are-short : (count : ℕ) (past : History) → count ≤ 255 → IsOfProcessors count past
@@ -176,8 +176,8 @@ time-charged s (Some x) id inside fits =
     task-charged s x id (eqb x.task id) inside (eqb_tells x.task id)
     ∙ saturating_sum-is (eqb x.task id) (task_in_figures s id).time (x.to - x.from) fits
 
--- a moment adds its slice to the time of its task, and of no other, if the time fits in 64 bits
-time-shown : (s s' : Figures) (o : Option Sight) (id : ℕ) → id < length s.tasks
+-- an answered event adds its slice to the time of its task, and of no other, if the time fits in 64 bits
+time-shown : (s s' : Figures) (o : Option ShownByAnswer) (id : ℕ) → id < length s.tasks
     → (task_in_figures s id).time + time_of (is_of id) (slice_seen s o) ≤ 18446744073709551615 → Shows s s' o
     → (task_in_figures s' id).time ≡ (task_in_figures s id).time + time_of (is_of id) (slice_seen s o)
 time-shown s s' None id inside fits h = omega (arith, h.0.times id)
@@ -185,8 +185,8 @@ time-shown s s' (Some x) id inside fits h =
     h.0.times id ∙ time-charged (figures_with_processor s x.processor (processor_read x.processor (processor_in_figures s x.processor) x.now))
     (slice_at x.processor (processor_in_figures s x.processor) x.now) id inside fits
 
--- after a moment there are as many tasks as before
-tasks-shown : (s s' : Figures) (o : Option Sight) → Shows s s' o → length s'.tasks ≡ length s.tasks
+-- after an answered event there are as many tasks as before
+tasks-shown : (s s' : Figures) (o : Option ShownByAnswer) → Shows s s' o → length s'.tasks ≡ length s.tasks
 tasks-shown s s' None h = h.0.tasks
 tasks-shown s s' (Some x) h = h.0.tasks ∙ tasks-read_at x.processor x.now s
 
@@ -195,16 +195,16 @@ pub tasks-figures : (count : ℕ) (past : History) → IsOfProcessors count past
 tasks-figures count [] h = length-replicate 1024 unknown
 tasks-figures count (m ∷ past) h =
     let s = figures count past in
-    tasks-shown s _ (sight_of m.event m.answer) (shows-after s m.event m.answer (within-figures count past m h))
+    tasks-shown s _ (shown_by_answer m.event m.answer) (shows-after s m.event m.answer (within-figures count past m h))
     ∙ tasks-figures count past h.1
 
 -- any part of the slices fits in 64 bits, with the next slice
-fits-next : (chosen : Slice → Bool) (count : ℕ) (past : History) (m : Moment) → count ≤ 255 → IsOfProcessors count (m ∷ past) →
-    time_in chosen (slices past) + time_of chosen (slice_shown past (sight_of m.event m.answer)) ≤ 18446744073709551615
+fits-next : (chosen : Slice → Bool) (count : ℕ) (past : History) (m : AnsweredEvent) → count ≤ 255 → IsOfProcessors count (m ∷ past) →
+    time_in chosen (slices past) + time_of chosen (slice_shown past (shown_by_answer m.event m.answer)) ≤ 18446744073709551615
 fits-next chosen count past m few h =
     omega (
       arith,
-      time_in-more chosen (slices past) (slice_shown past (sight_of m.event m.answer)),
+      time_in-more chosen (slices past) (slice_shown past (shown_by_answer m.event m.answer)),
       time_in-le chosen (slices (m ∷ past)),
       slices-le-clocks count (m ∷ past) h,
       clocks-are-short count (m ∷ past) few h,
@@ -216,7 +216,7 @@ pub time_is_sum_of_slices : (count : ℕ) (past : History) → count ≤ 255 →
 time_is_sum_of_slices count [] few h id inside = ap (λ (t : TaskFigures). t.time) (get_or-replicate 1024 id unknown unknown inside)
 time_is_sum_of_slices count (m ∷ past) few h id inside =
     let s = figures count past in
-    let o = sight_of m.event m.answer in
+    let o = shown_by_answer m.event m.answer in
     let before = time_is_sum_of_slices count past few h.1 id inside in
     let seen = ap (time_of (is_of id)) (shown-seen count past o h.1 h.0) in
     let inside' : id < length s.tasks = omega (arith, tasks-figures count past h.1) in
@@ -259,8 +259,8 @@ worth-at : (processor j from to : ℕ) (running : Option Start)
 worth-at processor j from to None = sym (worth-none (eqb processor j))
 worth-at processor j from to (Some start) = worth-some processor j from to start (ltb from to)
 
--- a moment adds its slice to the busy time of its processor, and of no other, if the time fits in 64 bits
-busy-shown : (s s' : Figures) (o : Option Sight) (j : ℕ) → j < length s.processors
+-- an answered event adds its slice to the busy time of its processor, and of no other, if the time fits in 64 bits
+busy-shown : (s s' : Figures) (o : Option ShownByAnswer) (j : ℕ) → j < length s.processors
     → (processor_in_figures s j).busy + time_of (is_slice_at j) (slice_seen s o) ≤ 18446744073709551615 → Shows s s' o
     → (processor_in_figures s' j).busy ≡ (processor_in_figures s j).busy + time_of (is_slice_at j) (slice_seen s o)
 busy-shown s s' None j inside fits h = ap (λ (w : Works). w.busy) (h.0.at j) ∙ omega arith
@@ -283,7 +283,7 @@ busy_is_sum_of_slices count [] few h processor inside =
     ap (λ (p : ProcessorFigures). p.busy) (get_or-replicate count processor unread unread inside)
 busy_is_sum_of_slices count (m ∷ past) few h processor inside =
     let s = figures count past in
-    let o = sight_of m.event m.answer in
+    let o = shown_by_answer m.event m.answer in
     let before = busy_is_sum_of_slices count past few h.1 processor inside in
     let seen = ap (time_of (is_slice_at processor)) (shown-seen count past o h.1 h.0) in
     let inside' : processor < length s.processors = omega (arith, count-figures count past h.1) in

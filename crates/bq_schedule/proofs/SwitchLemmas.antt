@@ -17,15 +17,15 @@ use Rattle.bq_schedule.specs.declared.change.Stop.{Stop}
 use Rattle.bq_schedule.specs.declared.change.StopReason.{StopReason}
 use Rattle.bq_schedule.specs.declared.change.StopReason.TheVariants.{Preempted, Blocked}
 use Rattle.bq_schedule.specs.declared.figures.ProcessorFigures.{ProcessorFigures}
-use Rattle.bq_schedule.specs.Moments.{Moment, History}
+use Rattle.bq_schedule.specs.Histories.{AnsweredEvent, History}
 use Rattle.bq_schedule.specs.Figures.{Figures, unread, processor_in_figures, task_in_figures}
 use Rattle.bq_schedule.specs.Passing.{figures_read}
 use Rattle.bq_schedule.specs.Runnable.{figures_left}
 use Rattle.bq_schedule.specs.Running.{stopped, started, starts_as, start_of, stop_of, processor_runs, figures_switched, is_run_by, stop_at, start_at}
-use Rattle.bq_schedule.specs.Slices.{Sight, sight, sight_of, clock, clock_after, runner, runner_after}
+use Rattle.bq_schedule.specs.Slices.{ShownByAnswer, shown_by_reply, shown_by_answer, clock, clock_after, runner, runner_after}
 use Rattle.bq_schedule.specs.Steps.{nothing, figures_counted, figures_taken, emptied, figures_decided, blocked, figures_pulled, performed, report_of_answer, time_at, is_there, figures_after, change, figures}
 use Rattle.bq_schedule.specs.Switches.{why_left}
-use Rattle.bq_schedule.specs.Laws.{IsSightWithin, IsOfProcessors, ReportsStarts, ReportsStops}
+use Rattle.bq_schedule.specs.Laws.{IsShownWithin, IsOfProcessors, ReportsStarts, ReportsStops}
 use Rattle.bq_schedule.proofs.FrameLemmas.{KeepsRunning, works-counted, works-leaves, works-taken, works-stopped, processors-begun_if, running-then, running-id, running-with_processor, running-counted, running-leaves, running-taken, running-read_at, runs-switched, who_is, count-read_at}
 use Rattle.bq_schedule.proofs.ClockLemmas.{figures-clocks, shows-performed, within-figures, not_below}
 
@@ -84,8 +84,8 @@ abbrev pub ReportsRunning : Figures → Figures → StopReason → ℕ → ℕ �
 ReportsRunning s s' reason processor at None stop start = (stop ≡ None) × (start ≡ None) × KeepsRunning s s'
 ReportsRunning s s' reason processor at (Some run) stop start = Switches s s' reason processor at run stop start
 
--- what an answer tells of who runs, by the sight of an event and its answer
-abbrev pub ReportsSwitch : Figures → Figures → Event → Option Sight → Option Stop → Option Start → Type 0
+-- what an answer tells of who runs, by what an event and its answer show
+abbrev pub ReportsSwitch : Figures → Figures → Event → Option ShownByAnswer → Option Stop → Option Start → Type 0
 ReportsSwitch s s' e None stop start = (stop ≡ None) × (start ≡ None) × KeepsRunning s s'
 ReportsSwitch s s' e (Some x) stop start = ReportsRunning s s' (why_left e) x.processor (time_at x.processor x.now s) x.run stop start
 
@@ -133,7 +133,7 @@ pulled-reports processor now d task run s inside =
 
 -- each reply tells the switch that it shows, by cases:
 performed-reports : (s : Figures) (e : Event) (r : Reply) → is_there s e ≡ true
-    → ReportsSwitch s (performed s e r) e (sight e r) (report_of_answer s e r).stop (report_of_answer s e r).start
+    → ReportsSwitch s (performed s e r) e (shown_by_reply e r) (report_of_answer s e r).stop (report_of_answer s e r).start
 performed-reports s (Admit id nice mask slice) Admitted there =
     (refl, refl, (shows-performed s (Admit id nice mask slice) Admitted there).1)
 performed-reports s (EndWake processor now) (Placed task to by steps) there =
@@ -154,8 +154,8 @@ performed-reports s (Pull processor from now) (Pulled task run by steps) there =
     (ltb-true processor (length s.processors) there)
 performed-reports s e r there = (refl, refl, running-id s)
 
-nothing-reports : (s : Figures) (e : Event) (r : Reply) → is_there s e ≡ false → IsSightWithin (length s.processors) (sight e r)
-    → ReportsSwitch s s e (sight e r) None None
+nothing-reports : (s : Figures) (e : Event) (r : Reply) → is_there s e ≡ false → IsShownWithin (length s.processors) (shown_by_reply e r)
+    → ReportsSwitch s s e (shown_by_reply e r) None None
 nothing-reports s (EndWake processor now) (Placed task to by steps) none h = absurd (not_below processor (length s.processors) none h)
 nothing-reports s (Drain processor now) (Drained count run by steps) none h = absurd (not_below processor (length s.processors) none h)
 nothing-reports s (Tick processor now) (Ticked run by steps) none h = absurd (not_below processor (length s.processors) none h)
@@ -164,16 +164,16 @@ nothing-reports s (Pull processor from now) (Pulled task run by steps) none h = 
 nothing-reports s e r none h = (refl, refl, running-id s)
 
 reports-if : (b : Bool) (s : Figures) (e : Event) (r : Reply)
-    → is_there s e ≡ b → IsSightWithin (length s.processors) (sight e r)
-    → ReportsSwitch s (cond b (performed s e r) s) e (sight e r) (cond b (report_of_answer s e r) nothing).stop
+    → is_there s e ≡ b → IsShownWithin (length s.processors) (shown_by_reply e r)
+    → ReportsSwitch s (cond b (performed s e r) s) e (shown_by_reply e r) (cond b (report_of_answer s e r) nothing).stop
     (cond b (report_of_answer s e r) nothing).start
 reports-if true s e r there h = performed-reports s e r there
 reports-if false s e r there h = nothing-reports s e r there h
 
 -- each answer tells the switch that it shows
 reports : (s : Figures) (e : Event) (a : Result Reply Refusal)
-    → IsSightWithin (length s.processors) (sight_of e a)
-    → ReportsSwitch s (figures_after s e a) e (sight_of e a) (change s e a).stop (change s e a).start
+    → IsShownWithin (length s.processors) (shown_by_answer e a)
+    → ReportsSwitch s (figures_after s e a) e (shown_by_answer e a) (change s e a).stop (change s e a).start
 reports s e (Ok r) h = reports-if (is_there s e) s e r refl h
 reports s e (Err r) h = (refl, refl, record { at = λ j. refl })
 
@@ -241,11 +241,11 @@ and_some (Some b) P a e p =
     let same : a ≡ b = cc in
     subst P same p
 
--- what a sight of a processor makes of the clock, and of who runs there
-clock-there : (j last : ℕ) (x : Sight) → j ≡ x.processor → clock_after j last (Some x) ≡ reading last x.now
+-- what an answer that shows a processor makes of the clock, and of who runs there
+clock-there : (j last : ℕ) (x : ShownByAnswer) → j ≡ x.processor → clock_after j last (Some x) ≡ reading last x.now
 clock-there j last x e = rw e (rw (eq-eqb x.processor x.processor refl) refl)
 
-runner-there : (j : ℕ) (w : Option ℕ) (x : Sight) → j ≡ x.processor → runner_after j w (Some x) ≡ unwrap_or x.run w
+runner-there : (j : ℕ) (w : Option ℕ) (x : ShownByAnswer) → j ≡ x.processor → runner_after j w (Some x) ≡ unwrap_or x.run w
 runner-there j w x e = rw e (rw (eq-eqb x.processor x.processor refl) refl)
 
 -- a choice between a thing and itself is that thing
@@ -253,16 +253,16 @@ same-cond : (b : Bool) (w : Option ℕ) → cond b w w ≡ w
 same-cond true w = refl
 same-cond false w = refl
 
--- a task begins to run with a sight
-abbrev pub BeginsWith : ℕ → ℕ → History → Option Sight → Type 0
+-- a task begins to run with what an answer shows
+abbrev pub BeginsWith : ℕ → ℕ → History → Option ShownByAnswer → Type 0
 BeginsWith j task past o = (runner_after j (runner j past) o ≡ Some task) × (runner j past ≢ Some task)
 
--- a task ceases to run with a sight
-abbrev pub CeasesWith : ℕ → ℕ → History → Option Sight → Type 0
+-- a task ceases to run with what an answer shows
+abbrev pub CeasesWith : ℕ → ℕ → History → Option ShownByAnswer → Type 0
 CeasesWith j task past o = (runner j past ≡ Some task) × (runner_after j (runner j past) o ≢ Some task)
 
 -- a start that is reported is of a task that begins to run
-abbrev pub IsStartOf : ℕ → History → Option Sight → Start → Type 0
+abbrev pub IsStartOf : ℕ → History → Option ShownByAnswer → Start → Type 0
 IsStartOf count past o st =
     (st.processor < count) × BeginsWith st.processor st.task past o
     × (st.at ≡ clock_after st.processor (clock st.processor past) o)
@@ -279,7 +279,7 @@ start-run count past processor now None s' reason stop start st h w t e =
     cc
 start-run count past processor now (Some run) s' reason stop start st h w t e =
     let s = figures count past in
-    let x : Sight = record { processor = processor; now = now; run = Some run } in
+    let x : ShownByAnswer = record { processor = processor; now = now; run = Some run } in
     let c = figures-clocks count past processor h w in
     let i =
     start_if (is_run_by (processor_in_figures s processor).running run) (processor_in_figures s processor).running processor
@@ -294,9 +294,9 @@ start-run count past processor now (Some run) s' reason stop start st h w t e =
           ∙ sym (clock-there st.processor (clock st.processor past) x here),
     )
 
-start-shown : (count : ℕ) (past : History) (o : Option Sight) (s' : Figures) (e : Event) (stop : Option Stop)
+start-shown : (count : ℕ) (past : History) (o : Option ShownByAnswer) (s' : Figures) (e : Event) (stop : Option Stop)
     (start : Option Start) (st : Start)
-    → IsOfProcessors count past → IsSightWithin count o → ReportsSwitch (figures count past) s' e o stop start → start ≡ Some st
+    → IsOfProcessors count past → IsShownWithin count o → ReportsSwitch (figures count past) s' e o stop start → start ≡ Some st
     → IsStartOf count past o st
 start-shown count past None s' e stop start st h w t is =
     let t1 = t.1 in
@@ -336,31 +336,31 @@ begun-run count past processor now j task None s' reason stop start h w t begins
 begun-run count past processor now j task (Some run) s' reason stop start h w t begins =
     begun-there count past processor now j task run s' reason stop start (eqb processor j) h w t (eqb_tells processor j) begins.0 begins.1
 
-begun-shown : (count : ℕ) (past : History) (o : Option Sight) (s' : Figures) (e : Event) (stop : Option Stop)
+begun-shown : (count : ℕ) (past : History) (o : Option ShownByAnswer) (s' : Figures) (e : Event) (stop : Option Stop)
     (start : Option Start) (j task : ℕ)
-    → IsOfProcessors count past → IsSightWithin count o → ReportsSwitch (figures count past) s' e o stop start
+    → IsOfProcessors count past → IsShownWithin count o → ReportsSwitch (figures count past) s' e o stop start
     → BeginsWith j task past o
     → IsSomeAnd start (λ st. (st.processor ≡ j) × (st.task ≡ task))
 begun-shown count past None s' e stop start j task h w t begins = absurd (begins.1 begins.0)
 begun-shown count past (Some x) s' e stop start j task h w t begins =
     begun-run count past x.processor x.now j task x.run s' (why_left e) stop start h w t begins
 
--- what a moment tells is of the switch that it shows
-pub moment_reports : (count : ℕ) (past : History) (m : Moment)
+-- what an answered event tells is of the switch that it shows
+pub answer_reports : (count : ℕ) (past : History) (m : AnsweredEvent)
     → IsOfProcessors count (m ∷ past)
-    → ReportsSwitch (figures count past) (figures count (m ∷ past)) m.event (sight_of m.event m.answer)
+    → ReportsSwitch (figures count past) (figures count (m ∷ past)) m.event (shown_by_answer m.event m.answer)
     (change (figures count past) m.event m.answer).stop (change (figures count past) m.event m.answer).start
-moment_reports count past m h = reports (figures count past) m.event m.answer (within-figures count past m h)
+answer_reports count past m h = reports (figures count past) m.event m.answer (within-figures count past m h)
 
 -- a start is reported exactly when a task begins to run
 pub reports_starts : ReportsStarts
 reports_starts count past m h =
-    let o = sight_of m.event m.answer in
+    let o = shown_by_answer m.event m.answer in
     let s' = figures count (m ∷ past) in
     let c = change (figures count past) m.event m.answer in (
       λ processor task inside begins.
-          begun-shown count past o s' m.event c.stop c.start processor task h.1 h.0 (moment_reports count past m h) begins,
-      of_some c.start _ (λ st is. start-shown count past o s' m.event c.stop c.start st h.1 h.0 (moment_reports count past m h) is),
+          begun-shown count past o s' m.event c.stop c.start processor task h.1 h.0 (answer_reports count past m h) begins,
+      of_some c.start _ (λ st is. start-shown count past o s' m.event c.stop c.start st h.1 h.0 (answer_reports count past m h) is),
     )
 
 -- what runs at a processor has begun there
@@ -377,7 +377,7 @@ begun-here false processor at (Some id) u running st e before =
     let x : start_of processor id at (task_in_figures u id) ≡ st = cc in
     ap (λ (y : Start). y.processor) (sym x)
 
--- where what ran at a processor had begun there, what runs after a moment has too, by cases:
+-- where what ran at a processor had begun there, what runs after an answered event has too, by cases:
 here-there : (s s' : Figures) (reason : StopReason) (processor at : ℕ) (run : Option ℕ) (stop : Option Stop)
     (start : Option Start) (j : ℕ) (st : Start) (b : Bool)
     → Switches s s' reason processor at run stop start → ((b ≡ true) × (processor ≡ j)) ⊎ ((b ≡ false) × (processor ≢ j))
@@ -399,7 +399,7 @@ here-run s s' reason processor at None stop start j st t before e = before (sym 
 here-run s s' reason processor at (Some run) stop start j st t before e =
     here-there s s' reason processor at run stop start j st (eqb processor j) t (eqb_tells processor j) before e
 
-here-shown : (s s' : Figures) (e : Event) (o : Option Sight) (stop : Option Stop) (start : Option Start) (j : ℕ) (st : Start)
+here-shown : (s s' : Figures) (e : Event) (o : Option ShownByAnswer) (stop : Option Stop) (start : Option Start) (j : ℕ) (st : Start)
     → ReportsSwitch s s' e o stop start → ((processor_in_figures s j).running ≡ Some st → st.processor ≡ j)
     → (processor_in_figures s' j).running ≡ Some st
     → st.processor ≡ j
@@ -415,11 +415,11 @@ runs_here count [] h j st inside e =
     cc
 runs_here count (m ∷ past) h j st inside e =
     let c = change (figures count past) m.event m.answer in
-    here-shown (figures count past) (figures count (m ∷ past)) m.event (sight_of m.event m.answer) c.stop c.start j st
-    (moment_reports count past m h) (runs_here count past h.1 j st inside) e
+    here-shown (figures count past) (figures count (m ∷ past)) m.event (shown_by_answer m.event m.answer) c.stop c.start j st
+    (answer_reports count past m h) (runs_here count past h.1 j st inside) e
 
 -- a stop that is reported is of a task that ceases to run
-abbrev pub IsStopOf : ℕ → History → Event → Option Sight → Stop → Type 0
+abbrev pub IsStopOf : ℕ → History → Event → Option ShownByAnswer → Stop → Type 0
 IsStopOf count past e o sp =
     (sp.start.processor < count) × CeasesWith sp.start.processor sp.start.task past o
     × (sp.at ≡ clock_after sp.start.processor (clock sp.start.processor past) o) × (sp.reason ≡ why_left e)
@@ -436,7 +436,7 @@ stop-run count past e processor now None s' stop start sp h w t is =
     cc
 stop-run count past e processor now (Some run) s' stop start sp h w t is =
     let s = figures count past in
-    let x : Sight = record { processor = processor; now = now; run = Some run } in
+    let x : ShownByAnswer = record { processor = processor; now = now; run = Some run } in
     let c = figures-clocks count past processor h w in
     let i =
     stop_if (is_run_by (processor_in_figures s processor).running run) (processor_in_figures s processor).running (why_left e)
@@ -453,9 +453,9 @@ stop-run count past e processor now (Some run) s' stop start sp h w t is =
       i.why,
     )
 
-stop-shown : (count : ℕ) (past : History) (o : Option Sight) (s' : Figures) (e : Event) (stop : Option Stop)
+stop-shown : (count : ℕ) (past : History) (o : Option ShownByAnswer) (s' : Figures) (e : Event) (stop : Option Stop)
     (start : Option Start) (sp : Stop)
-    → IsOfProcessors count past → IsSightWithin count o → ReportsSwitch (figures count past) s' e o stop start → stop ≡ Some sp
+    → IsOfProcessors count past → IsShownWithin count o → ReportsSwitch (figures count past) s' e o stop start → stop ≡ Some sp
     → IsStopOf count past e o sp
 stop-shown count past None s' e stop start sp h w t is =
     let t0 = t.0 in
@@ -505,9 +505,9 @@ ceased-run count past processor now j task None s' reason stop start h w t cease
 ceased-run count past processor now j task (Some run) s' reason stop start h w t ceases =
     ceased-there count past processor now j task run s' reason stop start (eqb processor j) h w t (eqb_tells processor j) ceases.0 ceases.1
 
-ceased-shown : (count : ℕ) (past : History) (o : Option Sight) (s' : Figures) (e : Event) (stop : Option Stop)
+ceased-shown : (count : ℕ) (past : History) (o : Option ShownByAnswer) (s' : Figures) (e : Event) (stop : Option Stop)
     (start : Option Start) (j task : ℕ)
-    → IsOfProcessors count past → IsSightWithin count o → ReportsSwitch (figures count past) s' e o stop start
+    → IsOfProcessors count past → IsShownWithin count o → ReportsSwitch (figures count past) s' e o stop start
     → CeasesWith j task past o
     → IsSomeAnd stop (λ sp. (sp.start.processor ≡ j) × (sp.start.task ≡ task))
 ceased-shown count past None s' e stop start j task h w t ceases = absurd (ceases.1 ceases.0)
@@ -517,10 +517,10 @@ ceased-shown count past (Some x) s' e stop start j task h w t ceases =
 -- a stop is reported exactly when a task ceases to run
 pub reports_stops : ReportsStops
 reports_stops count past m h =
-    let o = sight_of m.event m.answer in
+    let o = shown_by_answer m.event m.answer in
     let s' = figures count (m ∷ past) in
     let c = change (figures count past) m.event m.answer in (
       λ processor task inside ceases.
-          ceased-shown count past o s' m.event c.stop c.start processor task h.1 h.0 (moment_reports count past m h) ceases,
-      of_some c.stop _ (λ sp is. stop-shown count past o s' m.event c.stop c.start sp h.1 h.0 (moment_reports count past m h) is),
+          ceased-shown count past o s' m.event c.stop c.start processor task h.1 h.0 (answer_reports count past m h) ceases,
+      of_some c.stop _ (λ sp is. stop-shown count past o s' m.event c.stop c.start sp h.1 h.0 (answer_reports count past m h) is),
     )

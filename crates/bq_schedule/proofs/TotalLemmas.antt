@@ -19,15 +19,15 @@ use Rattle.bq_schedule.specs.declared.change.StopReason.TheVariants.{Preempted, 
 use Rattle.bq_schedule.specs.declared.figures.TaskFigures.{TaskFigures}
 use Rattle.bq_schedule.specs.declared.figures.ProcessorFigures.{ProcessorFigures}
 use Rattle.bq_schedule.specs.Counts.{parts_per_nanosecond}
-use Rattle.bq_schedule.specs.Moments.{Moment, History}
+use Rattle.bq_schedule.specs.Histories.{AnsweredEvent, History}
 use Rattle.bq_schedule.specs.Figures.{Figures, opening_figures, unread, unknown, processor_in_figures, task_in_figures, figures_with_processor, figures_with_task}
 use Rattle.bq_schedule.specs.Passing.{slice_at, slice_length, parts_per_weight, processor_read, figures_read, with_charged}
 use Rattle.bq_schedule.specs.Runnable.{fair_at, fair_of, figures_left, comes}
 use Rattle.bq_schedule.specs.Running.{figures_switched}
-use Rattle.bq_schedule.specs.Slices.{Sight, sight, sight_of, is_this}
+use Rattle.bq_schedule.specs.Slices.{ShownByAnswer, shown_by_reply, shown_by_answer, is_this}
 use Rattle.bq_schedule.specs.Steps.{figures_counted, figures_admitted, waited_there, emptied, figures_taken, placed, figures_decided, blocked, figures_pulled, performed, time_at, is_there, figures_after, figures}
 use Rattle.bq_schedule.specs.FairTimes.{weight_there, weights_at, share, all_fair, all_unshared, all_busy}
-use Rattle.bq_schedule.specs.Laws.{IsSightWithin, IsOfProcessors, SharesOut, AddsUpFairTimes}
+use Rattle.bq_schedule.specs.Laws.{IsShownWithin, IsOfProcessors, SharesOut, AddsUpFairTimes}
 use Rattle.bq_schedule.proofs.FrameLemmas.{Works, KeepsWorks, works-id, works-then, processor_kept, task_kept, works-with_processor, works-with_task, works-counted, works-leaves, works-comes, works-switched, processors-read_at, count-read_at, tasks-read_at}
 use Rattle.bq_schedule.proofs.ClockLemmas.{count-figures, within-figures, not_below}
 use Rattle.bq_schedule.proofs.SumLemmas.{clocks-are-short}
@@ -178,7 +178,7 @@ goes-taken processor now (Some id) s =
     (goes-comes id processor now (waited_there id now s))
 
 -- after its reading, what an event does
-abbrev pub GoesFrom : Figures → Option Sight → Figures → Type 0
+abbrev pub GoesFrom : Figures → Option ShownByAnswer → Figures → Type 0
 GoesFrom s None s' = Goes s s'
 GoesFrom s (Some x) s' = Goes (figures_read x.processor x.now s) s'
 
@@ -214,7 +214,7 @@ goes-blocked processor now id run s =
     goes-then r (figures_left id r) _ (goes-leaves id r) (goes-switched Blocked processor (time_at processor now s) run (figures_left id r))
 
 -- after its reading, what a reply does leaves each task what it has
-goes-performed : (s : Figures) (e : Event) (r : Reply) → GoesFrom s (sight e r) (performed s e r)
+goes-performed : (s : Figures) (e : Event) (r : Reply) → GoesFrom s (shown_by_reply e r) (performed s e r)
 goes-performed s (Admit id nice mask slice) Admitted = goes-admitted id nice s
 goes-performed s (EndWake processor now) (Placed task to by steps) =
     goes-placed processor now (record { hook = Place; by = by; steps = steps }) task to s
@@ -230,8 +230,8 @@ goes-performed s (Pull processor from now) (Pulled task run by steps) =
 goes-performed s e r = goes-id s
 
 -- where the event's processor is not there, figures that stay as they are leave each task what it has
-goes-nothing : (s : Figures) (e : Event) (r : Reply) → is_there s e ≡ false → IsSightWithin (length s.processors) (sight e r)
-    → GoesFrom s (sight e r) s
+goes-nothing : (s : Figures) (e : Event) (r : Reply) → is_there s e ≡ false → IsShownWithin (length s.processors) (shown_by_reply e r)
+    → GoesFrom s (shown_by_reply e r) s
 goes-nothing s (EndWake processor now) (Placed task to by steps) none h = absurd (not_below processor (length s.processors) none h)
 goes-nothing s (Drain processor now) (Drained count run by steps) none h = absurd (not_below processor (length s.processors) none h)
 goes-nothing s (Tick processor now) (Ticked run by steps) none h = absurd (not_below processor (length s.processors) none h)
@@ -240,13 +240,13 @@ goes-nothing s (Pull processor from now) (Pulled task run by steps) none h = abs
 goes-nothing s e r none h = goes-id s
 
 -- after its reading an event leaves each task what it has, whether its processor is there, and whether it is refused:
-goes-if : (b : Bool) (s : Figures) (e : Event) (r : Reply) → is_there s e ≡ b → IsSightWithin (length s.processors) (sight e r)
-    → GoesFrom s (sight e r) (cond b (performed s e r) s)
+goes-if : (b : Bool) (s : Figures) (e : Event) (r : Reply) → is_there s e ≡ b → IsShownWithin (length s.processors) (shown_by_reply e r)
+    → GoesFrom s (shown_by_reply e r) (cond b (performed s e r) s)
 goes-if true s e r there h = goes-performed s e r
 goes-if false s e r there h = goes-nothing s e r there h
 
 goes-after : (s : Figures) (e : Event) (a : Result Reply Refusal)
-    → IsSightWithin (length s.processors) (sight_of e a) → GoesFrom s (sight_of e a) (figures_after s e a)
+    → IsShownWithin (length s.processors) (shown_by_answer e a) → GoesFrom s (shown_by_answer e a) (figures_after s e a)
 goes-after s e (Ok r) h = goes-if (is_there s e) s e r refl h
 goes-after s e (Err r) h = record {
   keeps = record { at = λ j. refl; count = refl; tasks = refl; times = λ id. refl };
@@ -520,13 +520,13 @@ opening-full count =
     }
 
 -- what an event gives and leaves
-pub record Rises (s s' : Figures) (o : Option Sight) : Type 0 where
+pub record Rises (s s' : Figures) (o : Option ShownByAnswer) : Type 0 where
   pub full : IsFull s'
   pub raws : (id : ℕ) → PurseLemmas.uncapped s' id ≡ PurseLemmas.uncapped s id + share s o id
 
 -- an event adds to what each task has its share of the slice, and leaves all full, if what follows its reading is such a move
-rises : (s s' : Figures) (o : Option Sight) → IsFull s → IsShort s → IsShort s'
-    → IsSightWithin (length s.processors) o → GoesFrom s o s'
+rises : (s s' : Figures) (o : Option ShownByAnswer) → IsFull s → IsShort s → IsShort s'
+    → IsShownWithin (length s.processors) o → GoesFrom s o s'
     → Rises s s' o
 rises s s' None f short short' w g =
     let m = g.goes f short in
@@ -546,13 +546,13 @@ rises s s' (Some x) f short short' w g =
           (f.sound.weights x.processor w);
     }
 
--- each moment of a history adds to what each task has its share of the slice, and leaves all full
-step : (count : ℕ) (past : History) (m : Moment) → count ≤ 255 → IsOfProcessors count (m ∷ past) → IsFull (figures count past)
-    → Rises (figures count past) (figures count (m ∷ past)) (sight_of m.event m.answer)
+-- each answered event of a history adds to what each task has its share of the slice, and leaves all full
+step : (count : ℕ) (past : History) (m : AnsweredEvent) → count ≤ 255 → IsOfProcessors count (m ∷ past) → IsFull (figures count past)
+    → Rises (figures count past) (figures count (m ∷ past)) (shown_by_answer m.event m.answer)
 step count past m few h f =
     let s = figures count past in
     let w = within-figures count past m h in
-    rises s (figures_after s m.event m.answer) (sight_of m.event m.answer) f (is_short count past few h.1)
+    rises s (figures_after s m.event m.answer) (shown_by_answer m.event m.answer) f (is_short count past few h.1)
     (is_short count (m ∷ past) few h) w (goes-after s m.event m.answer w)
 
 -- in each history what tasks have, and what is left over, is what was run
@@ -568,7 +568,7 @@ shares_out count past m id few h =
     let f = figures_are_full count past few h.1 in
     let k = step count past m few h f in
     fair-raw s' id k.full (is_short count (m ∷ past) few h) ∙ k.raws id
-    ∙ ap (λ n. n + share s (sight_of m.event m.answer) id) (sym (fair-raw s id f (is_short count past few h.1)))
+    ∙ ap (λ n. n + share s (shown_by_answer m.event m.answer) id) (sym (fair-raw s id f (is_short count past few h.1)))
 
 -- all fair times, and what was not shared out, are the time in which any task ran, in parts of a nanosecond
 pub adds_up_fair_times : AddsUpFairTimes

@@ -21,15 +21,15 @@ use Rattle.bq_schedule.specs.declared.change.StopReason.TheVariants.{Preempted, 
 use Rattle.bq_schedule.specs.declared.figures.ProcessorFigures.{ProcessorFigures}
 use Rattle.bq_schedule.specs.declared.figures.TaskFigures.{TaskFigures}
 use Rattle.bq_disc.specs.Counts.{saturating_sum}
-use Rattle.bq_schedule.specs.Moments.{Moment, History}
+use Rattle.bq_schedule.specs.Histories.{AnsweredEvent, History}
 use Rattle.bq_schedule.specs.Figures.{Figures, unknown, processor_in_figures, task_in_figures, figures_with_processor, figures_with_task}
 use Rattle.bq_schedule.specs.Passing.{figures_read, with_charged, processor_read, slice_at}
 use Rattle.bq_schedule.specs.Runnable.{left_from, figures_left, processor_joined, comes}
 use Rattle.bq_schedule.specs.Running.{running_task, stopped, started, starts_as, start_of, start_at, begun_if, figures_switched, is_run_by, with_latency}
-use Rattle.bq_schedule.specs.Slices.{sight, sight_of, clock, is_this}
+use Rattle.bq_schedule.specs.Slices.{shown_by_reply, shown_by_answer, clock, is_this}
 use Rattle.bq_schedule.specs.Steps.{nothing, figures_counted, waited_there, figures_taken, pulled_report, moves_as, placed, figures_pulled, performed, report_of_answer, time_at, is_there, figures_after, change, figures}
 use Rattle.bq_schedule.specs.Waits.{gives_way, then_if, wait_begins, waits_since, wait_of_pull, wait_of_start, reported_wait}
-use Rattle.bq_schedule.specs.Laws.{IsSightWithin, IsOfProcessors, ReportsWaits, AddsUpWaits}
+use Rattle.bq_schedule.specs.Laws.{IsShownWithin, IsOfProcessors, ReportsWaits, AddsUpWaits}
 use Rattle.bq_schedule.proofs.CountLemmas.{saturating_sum-both}
 use Rattle.bq_schedule.proofs.FrameLemmas.{task_kept, who_is}
 use Rattle.bq_schedule.proofs.ClockLemmas.{figures-clocks, within-figures, not_below}
@@ -458,7 +458,7 @@ performed-reports s (Pull processor from now) (Pulled task run by steps) j insid
 performed-reports s e r j inside = nothing-reports s j nothing refl refl
 
 none-reports : (s : Figures) (e : Event) (r : Reply) (j : ℕ) → is_there s e ≡ false
-    → IsSightWithin (length s.processors) (sight e r)
+    → IsShownWithin (length s.processors) (shown_by_reply e r)
     → ReportsWaited s s j (wait_seen j s e (Ok r)) nothing
 none-reports s (EndWake processor now) (Placed task to by steps) j none h = absurd (not_below processor (length s.processors) none h)
 none-reports s (Drain processor now) (Drained count run by steps) j none h = absurd (not_below processor (length s.processors) none h)
@@ -468,13 +468,13 @@ none-reports s (Pull processor from now) (Pulled task run by steps) j none h = a
 none-reports s e r j none h = nothing-reports s j nothing refl refl
 
 reports-if : (b : Bool) (s : Figures) (e : Event) (r : Reply) (j : ℕ)
-    → is_there s e ≡ b → j < length s.tasks → IsSightWithin (length s.processors) (sight e r)
+    → is_there s e ≡ b → j < length s.tasks → IsShownWithin (length s.processors) (shown_by_reply e r)
     → ReportsWaited s (cond b (performed s e r) s) j (wait_seen j s e (Ok r)) (cond b (report_of_answer s e r) nothing)
 reports-if true s e r j there inside h = performed-reports s e r j inside
 reports-if false s e r j there inside h = none-reports s e r j there h
 
 reports-after : (s : Figures) (e : Event) (a : Result Reply Refusal) (j : ℕ)
-    → j < length s.tasks → IsSightWithin (length s.processors) (sight_of e a)
+    → j < length s.tasks → IsShownWithin (length s.processors) (shown_by_answer e a)
     → ReportsWaited s (figures_after s e a) j (wait_seen j s e a) (change s e a)
 reports-after s e (Ok r) j inside h = reports-if (is_there s e) s e r j refl inside h
 reports-after s (EndWake processor now) (Err r) j inside h =
@@ -486,7 +486,7 @@ reports-after s e (Err r) j inside h =
 
 -- the figures' waits are those of the history
 seen-wait : (count : ℕ) (past : History) (e : Event) (a : Result Reply Refusal) (j : ℕ)
-    → IsOfProcessors count past → IsSightWithin count (sight_of e a)
+    → IsOfProcessors count past → IsShownWithin count (shown_by_answer e a)
     → wait_seen j (figures count past) e a ≡ wait_begins j past e a
 seen-wait count past (EndWake processor now) (Ok (Placed task to by steps)) j h w =
     ap (λ n. then_if (eqb task j) (reading n now)) (figures-clocks count past processor h w).0
@@ -504,8 +504,8 @@ seen-wait count past (Pull processor from now) (Ok (Pulled task run by steps)) j
     ∙ ap (λ y. then_if (is_this j task || gives_way j y run) (reading (clock processor past) now)) c.1
 seen-wait count past e a j h w = refl
 
--- what the figures know of waits after a moment
-reported-of : (count : ℕ) (past : History) (m : Moment) (j : ℕ)
+-- what the figures know of waits after an answered event
+reported-of : (count : ℕ) (past : History) (m : AnsweredEvent) (j : ℕ)
     → IsOfProcessors count (m ∷ past) → j < 1024
     → ReportsWaited (figures count past) (figures count (m ∷ past)) j (wait_seen j (figures count past) m.event m.answer)
     (change (figures count past) m.event m.answer)

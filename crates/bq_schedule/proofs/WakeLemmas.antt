@@ -18,15 +18,15 @@ use Rattle.bq_schedule.specs.declared.change.StopReason.{StopReason}
 use Rattle.bq_schedule.specs.declared.change.StopReason.TheVariants.{Preempted, Blocked}
 use Rattle.bq_schedule.specs.declared.figures.ProcessorFigures.{ProcessorFigures}
 use Rattle.bq_schedule.specs.declared.figures.TaskFigures.{TaskFigures}
-use Rattle.bq_schedule.specs.Moments.{History}
+use Rattle.bq_schedule.specs.Histories.{History}
 use Rattle.bq_schedule.specs.Figures.{Figures, unknown, processor_in_figures, task_in_figures, figures_with_processor, figures_with_task}
 use Rattle.bq_schedule.specs.Passing.{figures_read, with_charged, processor_read, slice_at}
 use Rattle.bq_schedule.specs.Runnable.{left_from, figures_left, comes}
 use Rattle.bq_schedule.specs.Running.{running_task, stopped, started, starts_as, start_of, start_at, begun_if, figures_switched, is_run_by}
-use Rattle.bq_schedule.specs.Slices.{Sight, sight, sight_of, clock, clock_after, runner, is_this}
+use Rattle.bq_schedule.specs.Slices.{ShownByAnswer, shown_by_reply, shown_by_answer, clock, clock_after, runner, is_this}
 use Rattle.bq_schedule.specs.Wakes.{begins_as, begins_run, wake_end, awaited_after, awaited}
 use Rattle.bq_schedule.specs.Steps.{nothing, figures_counted, waited_there, figures_taken, placed, figures_decided, blocked, figures_pulled, performed, report_of_answer, time_at, is_there, figures_after, change, figures}
-use Rattle.bq_schedule.specs.Laws.{IsSightWithin, IsOfProcessors, ReportsLatencies}
+use Rattle.bq_schedule.specs.Laws.{IsShownWithin, IsOfProcessors, ReportsLatencies}
 use Rattle.bq_schedule.proofs.FrameLemmas.{task_kept, running-counted, running-leaves, running-taken, running-read_at}
 use Rattle.bq_schedule.proofs.ClockLemmas.{figures-clocks, within-figures, not_below}
 use Rattle.bq_schedule.proofs.SumLemmas.{tasks-figures}
@@ -172,14 +172,14 @@ abbrev pub wake_seen : ℕ → Figures → Event → Result Reply Refusal → Op
 wake_seen j s (EndWake processor now) (Ok (Placed task to by steps)) = cond (eqb task j) (Some (time_at processor now s)) None
 wake_seen j s e a = None
 
--- a task begins to run with a sight, by who ran in the figures
-abbrev pub begins_seen : ℕ → Figures → Option Sight → Bool
+-- a task begins to run with what an answer shows, by who ran in the figures
+abbrev pub begins_seen : ℕ → Figures → Option ShownByAnswer → Bool
 begins_seen j s None = false
 begins_seen j s (Some x) = begins_as j (running_task (processor_in_figures s x.processor)) x.run
 
 -- the wake that figures show after an event
 abbrev pub AwaitsAfter : ℕ → Figures → Figures → Event → Result Reply Refusal → Type 0
-AwaitsAfter j s s' e a = (task_in_figures s' j).woken_at ≡ awaited_after (wake_seen j s e a) (begins_seen j s (sight_of e a)) (task_in_figures s j).woken_at
+AwaitsAfter j s s' e a = (task_in_figures s' j).woken_at ≡ awaited_after (wake_seen j s e a) (begins_seen j s (shown_by_answer e a)) (task_in_figures s j).woken_at
 
 -- after a placement the placed task has its new wake, and each other the wake it had:
 awaits-placed : (b : Bool) (at : ℕ) (before : Option ℕ) → cond b (Some at) before ≡ awaited_after (cond b (Some at) None) false before
@@ -286,7 +286,7 @@ performed-awaits s (Pull processor from now) (Pulled task run by steps) j inside
 performed-awaits s e r j inside = refl
 
 nothing-awaits : (s : Figures) (e : Event) (r : Reply) (j : ℕ)
-    → is_there s e ≡ false → IsSightWithin (length s.processors) (sight e r) → AwaitsAfter j s s e (Ok r)
+    → is_there s e ≡ false → IsShownWithin (length s.processors) (shown_by_reply e r) → AwaitsAfter j s s e (Ok r)
 nothing-awaits s (EndWake processor now) (Placed task to by steps) j none h = absurd (not_below processor (length s.processors) none h)
 nothing-awaits s (Drain processor now) (Drained count run by steps) j none h = absurd (not_below processor (length s.processors) none h)
 nothing-awaits s (Tick processor now) (Ticked run by steps) j none h = absurd (not_below processor (length s.processors) none h)
@@ -295,28 +295,28 @@ nothing-awaits s (Pull processor from now) (Pulled task run by steps) j none h =
 nothing-awaits s e r j none h = refl
 
 awaits-if : (b : Bool) (s : Figures) (e : Event) (r : Reply) (j : ℕ)
-    → is_there s e ≡ b → j < length s.tasks → IsSightWithin (length s.processors) (sight e r)
+    → is_there s e ≡ b → j < length s.tasks → IsShownWithin (length s.processors) (shown_by_reply e r)
     → AwaitsAfter j s (cond b (performed s e r) s) e (Ok r)
 awaits-if true s e r j there inside h = performed-awaits s e r j inside
 awaits-if false s e r j there inside h = nothing-awaits s e r j there h
 
 -- which wake is awaited after an event is what it was, except for what the answer shows
 awaits-after : (s : Figures) (e : Event) (a : Result Reply Refusal) (j : ℕ)
-    → j < length s.tasks → IsSightWithin (length s.processors) (sight_of e a) → AwaitsAfter j s (figures_after s e a) e a
+    → j < length s.tasks → IsShownWithin (length s.processors) (shown_by_answer e a) → AwaitsAfter j s (figures_after s e a) e a
 awaits-after s e (Ok r) j inside h = awaits-if (is_there s e) s e r j refl inside h
 awaits-after s (EndWake processor now) (Err r) j inside h = refl
 awaits-after s e (Err r) j inside h = refl
 
 -- the ends of wakes and the starts that figures show are those of the history:
 seen-wake : (count : ℕ) (past : History) (e : Event) (a : Result Reply Refusal) (j : ℕ)
-    → IsOfProcessors count past → IsSightWithin count (sight_of e a)
+    → IsOfProcessors count past → IsShownWithin count (shown_by_answer e a)
     → wake_seen j (figures count past) e a ≡ wake_end j past e a
 seen-wake count past (EndWake processor now) (Ok (Placed task to by steps)) j h w =
     ap (λ n. cond (eqb task j) (Some (reading n now)) None) (figures-clocks count past processor h w).0
 seen-wake count past e a j h w = refl
 
-seen-begins : (count : ℕ) (past : History) (o : Option Sight) (j : ℕ)
-    → IsOfProcessors count past → IsSightWithin count o → begins_seen j (figures count past) o ≡ begins_run j past o
+seen-begins : (count : ℕ) (past : History) (o : Option ShownByAnswer) (j : ℕ)
+    → IsOfProcessors count past → IsShownWithin count o → begins_seen j (figures count past) o ≡ begins_run j past o
 seen-begins count past None j h w = refl
 seen-begins count past (Some x) j h w = ap (λ y. begins_as j y x.run) (figures-clocks count past x.processor h w).1
 
@@ -326,7 +326,7 @@ awaits : (count : ℕ) (past : History) (j : ℕ) → IsOfProcessors count past 
 awaits count [] j h inside = ap (λ (t : TaskFigures). t.woken_at) (get_or-replicate 1024 j unknown unknown inside)
 awaits count (m ∷ past) j h inside =
     let s = figures count past in
-    let o = sight_of m.event m.answer in
+    let o = shown_by_answer m.event m.answer in
     awaits-after s m.event m.answer j (omega (arith, tasks-figures count past h.1)) (within-figures count past m h)
     ∙ ap (λ w. awaited_after w (begins_seen j s o) (task_in_figures s j).woken_at) (seen-wake count past m.event m.answer j h.1 h.0)
     ∙ ap (λ b. awaited_after (wake_end j past m.event m.answer) b (task_in_figures s j).woken_at) (seen-begins count past o j h.1 h.0)
@@ -377,13 +377,13 @@ starts reason s t processor now run start k r e =
     starts_if (is_run_by (processor_in_figures t processor).running run) reason s t processor now run start k r refl e
 
 -- what is reported of a start, by what the answer shows
-abbrev pub StartsAs : Figures → Option Sight → Start → Type 0
+abbrev pub StartsAs : Figures → Option ShownByAnswer → Start → Type 0
 StartsAs s None start = ⊥
 StartsAs s (Some x) start = (run : Option ℕ) × (x.run ≡ Some run) × Starts s x.processor x.now run start
 
--- each start that is reported is one at the processor of the sight, by cases:
+-- each start that is reported is one at the processor that the answer shows, by cases:
 starts-performed : (s : Figures) (e : Event) (r : Reply) (start : Start)
-    → (report_of_answer s e r).start ≡ Some start → StartsAs s (sight e r) start
+    → (report_of_answer s e r).start ≡ Some start → StartsAs s (shown_by_reply e r) start
 starts-performed s (Drain processor now) (Drained count run by steps) start e =
     let d : Decision = record { hook = Preempt; by = by; steps = steps } in (
       run,
@@ -415,23 +415,23 @@ starts-performed s (EndWake processor now) (Placed task to by steps) start e = c
 starts-performed s e r start h = cc
 
 starts-reported_if : (b : Bool) (s : Figures) (e : Event) (r : Reply) (start : Start)
-    → (cond b (report_of_answer s e r) nothing).start ≡ Some start → StartsAs s (sight e r) start
+    → (cond b (report_of_answer s e r) nothing).start ≡ Some start → StartsAs s (shown_by_reply e r) start
 starts-reported_if true s e r start h = starts-performed s e r start h
 starts-reported_if false s e r start h = cc
 
 starts-reported : (s : Figures) (e : Event) (a : Result Reply Refusal) (start : Start)
-    → (change s e a).start ≡ Some start → StartsAs s (sight_of e a) start
+    → (change s e a).start ≡ Some start → StartsAs s (shown_by_answer e a) start
 starts-reported s e (Ok r) start h = starts-reported_if (is_there s e) s e r start h
 starts-reported s e (Err r) start h = cc
 
--- the clock that a sight reads
-clock-there : (processor : ℕ) (past : History) (x : Sight) → x.processor ≡ processor
+-- the reading of the clock that an answer shows
+clock-there : (processor : ℕ) (past : History) (x : ShownByAnswer) → x.processor ≡ processor
     → clock_after processor (clock processor past) (Some x) ≡ reading (clock processor past) x.now
 clock-there processor past x e = rw e (rw (eq-eqb processor processor refl) refl)
 
 -- such a start is of a task that begins to run in the history, at that reading, with the time since its wake
-latency-shown : (count : ℕ) (past : History) (o : Option Sight) (start : Start)
-    → IsOfProcessors count past → IsSightWithin count o → start.task < 1024 → StartsAs (figures count past) o start
+latency-shown : (count : ℕ) (past : History) (o : Option ShownByAnswer) (start : Start)
+    → IsOfProcessors count past → IsShownWithin count o → start.task < 1024 → StartsAs (figures count past) o start
     → (begins_run start.task past o ≡ true) × (start.at ≡ clock_after start.processor (clock start.processor past) o)
     × (start.latency ≡ option_map (λ (woken : ℕ). start.at - woken) (awaited start.task past))
 latency-shown count past None start h w inside t = absurd t
@@ -446,5 +446,5 @@ latency-shown count past (Some x) start h w inside t =
 -- where a start is reported its task begins to run, and its latency is the distance from the wake that still waits
 pub reports_latencies : ReportsLatencies
 reports_latencies count past m start h inside e =
-    latency-shown count past (sight_of m.event m.answer) start h.1 h.0 inside
+    latency-shown count past (shown_by_answer m.event m.answer) start h.1 h.0 inside
     (starts-reported (figures count past) m.event m.answer start e)

@@ -6,11 +6,11 @@ use Rattle.bq_disc.specs.OneProcessor.{reading}
 use Rattle.bq_schedule.specs.declared.slice.Slice.{Slice}
 use Rattle.bq_schedule.specs.declared.change.Start.{Start}
 use Rattle.bq_schedule.specs.declared.figures.ProcessorFigures.{ProcessorFigures}
-use Rattle.bq_schedule.specs.Moments.{History}
+use Rattle.bq_schedule.specs.Histories.{History}
 use Rattle.bq_schedule.specs.Figures.{Figures, unread, processor_in_figures}
 use Rattle.bq_schedule.specs.Passing.{slice_between, slice_at, slice_length, passed, processor_read, figures_read}
 use Rattle.bq_schedule.specs.Observed.{observed_time, idle_in}
-use Rattle.bq_schedule.specs.Slices.{Sight, sight_of}
+use Rattle.bq_schedule.specs.Slices.{ShownByAnswer, shown_by_answer}
 use Rattle.bq_schedule.specs.Steps.{figures_after, figures}
 use Rattle.bq_schedule.specs.Laws.{IsOfProcessors, window_since, FillsObservedTime}
 use Rattle.bq_schedule.proofs.FrameLemmas.{Works, works, RunsAs}
@@ -72,8 +72,8 @@ runs_elsewhere : (o : Option (Option ℕ)) (s s' : Figures) (processor j : ℕ)
 runs_elsewhere None s s' processor j ne h = h.at j
 runs_elsewhere (Some run) s s' processor j ne h = h.1 j ne
 
--- a moment leaves a processor filled, its own and each other:
-filled-there : (s s' : Figures) (x : Sight) (j : ℕ) (b : Bool)
+-- an answered event leaves a processor filled, its own and each other:
+filled-there : (s s' : Figures) (x : ShownByAnswer) (j : ℕ) (b : Bool)
     → eqb x.processor j ≡ b → j < length s.processors → Shows s s' (Some x) → Filled (processor_in_figures s j)
     → ((b ≡ true) × (x.processor ≡ j)) ⊎ ((b ≡ false) × (x.processor ≢ j))
     → Filled (processor_in_figures s' j)
@@ -94,7 +94,7 @@ filled-there s s' x j false is inside h f (inr other) =
 filled-there s s' x j false is inside h f (inl same) = absurd (cc)
 filled-there s s' x j true is inside h f (inr other) = absurd (cc)
 
-filled-shown : (s s' : Figures) (o : Option Sight) (j : ℕ) → j < length s.processors → Shows s s' o
+filled-shown : (s s' : Figures) (o : Option ShownByAnswer) (j : ℕ) → j < length s.processors → Shows s s' o
     → Filled (processor_in_figures s j)
     → Filled (processor_in_figures s' j)
 filled-shown s s' None j inside h f = same_works (processor_in_figures s j) (processor_in_figures s' j) (h.0.at j) (h.1.at j) f
@@ -108,7 +108,7 @@ figures_are_filled count [] processor h inside =
     subst P (sym (get_or-replicate count processor unread unread inside)) (refl, refl)
 figures_are_filled count (m ∷ past) processor h inside =
     let s = figures count past in
-    filled-shown s (figures_after s m.event m.answer) (sight_of m.event m.answer) processor (omega (arith, count-figures count past h.1))
+    filled-shown s (figures_after s m.event m.answer) (shown_by_answer m.event m.answer) processor (omega (arith, count-figures count past h.1))
     (shows-after s m.event m.answer (within-figures count past m h)) (figures_are_filled count past processor h.1 inside)
 
 -- this much work fits in the time from the first reading to the last; with the idle time it fills a time

@@ -24,9 +24,9 @@ use Rattle.bq_hooks.specs.Permitted.{task_numbered}
 use Rattle.bq_parts.specs.Shares.{after_time, mark_updated}
 use Rattle.bq_parts.specs.Steps.{Performs, WorldStep, WorldRun}
 use Rattle.bq_parts.proofs.RefusalLemmas.{not_refused_is_there, first_refusal_passed, accepted}
-use Rattle.bq_schedule.specs.Moments.{History}
-use Rattle.bq_schedule.specs.Slices.{Sight, sight, sight_of, clock_after, clock, runner_after, runner}
-use Rattle.bq_schedule.specs.Laws.{IsSightWithin, IsOfProcessors, history_grown, IsCharged}
+use Rattle.bq_schedule.specs.Histories.{History}
+use Rattle.bq_schedule.specs.Slices.{ShownByAnswer, shown_by_reply, shown_by_answer, clock_after, clock, runner_after, runner}
+use Rattle.bq_schedule.specs.Laws.{IsShownWithin, IsOfProcessors, history_grown, IsCharged}
 use Rattle.bq_schedule.proofs.FrameLemmas.{get_or-set_like}
 use Rattle.bq_schedule.proofs.ClockLemmas.{within_same}
 
@@ -39,7 +39,7 @@ abbrev pub who_at : World → ℕ → Option ℕ
 who_at w j = id_of (processor_at w j).running.current
 
 -- a world shows of its processors what an answer says
-pub record Shown (w w' : World) (o : Option Sight) : Type 0 where
+pub record Shown (w w' : World) (o : Option ShownByAnswer) : Type 0 where
   pub count : count_in w' ≡ count_in w
   pub last : (j : ℕ) → j < count_in w → last_at w' j ≡ clock_after j (last_at w j) o
   pub who : (j : ℕ) → j < count_in w → who_at w' j ≡ runner_after j (who_at w j) o
@@ -54,7 +54,7 @@ kept w i p l c = record {
 }
 
 -- what is shown of a world depends only on its processors
-like : (w u w' : World) (o : Option Sight) → u.processors ≡ w'.processors → Shown w u o → Shown w w' o
+like : (w u w' : World) (o : Option ShownByAnswer) → u.processors ≡ w'.processors → Shown w u o → Shown w w' o
 like w u w' o e h = record {
   count = ap (λ (l : List Processor). length l) (sym e) ∙ h.count;
   last = λ j inside. ap (λ l. (get_or l j new_processor).running.last) (sym e) ∙ h.last j inside;
@@ -91,7 +91,7 @@ who_there w i j run p false inside l (inr e) =
     ap (λ (q : Processor). id_of q.running.current) (get_or-set_other w.processors i j p new_processor (λ h. e.1 (sym h)))
 
 -- a processor's clock is read, and who runs there is reported or stays
-read_there : (w : World) (x : Sight) (p : Processor) → p.running.last ≡ reading (last_at w x.processor) x.now
+read_there : (w : World) (x : ShownByAnswer) (p : Processor) → p.running.last ≡ reading (last_at w x.processor) x.now
     → id_of p.running.current ≡ unwrap_or x.run (who_at w x.processor)
     → Shown w (with_processor w x.processor p) (Some x)
 read_there w x p l c = record {
@@ -101,7 +101,7 @@ read_there w x p l c = record {
 }
 
 -- what is shown stays so when a step follows that shows nothing
-then_kept : (w u v : World) (o : Option Sight) → Shown w u o → Shown u v None → Shown w v o
+then_kept : (w u v : World) (o : Option ShownByAnswer) → Shown w u o → Shown u v None → Shown w v o
 then_kept w u v o a b = record {
   count = b.count ∙ a.count;
   last = λ j inside. let i : j < count_in u = omega (arith, a.count) in b.last j i ∙ a.last j inside;
@@ -145,12 +145,12 @@ id-charged d None time = refl
 id-charged d (Some t) time = refl
 
 -- of an answer that is another
-shown_as : (w w' : World) (e : Event) (r x : Reply) → r ≡ x → Shown w w' (sight e x) → Shown w w' (sight e r)
+shown_as : (w w' : World) (e : Event) (r x : Reply) → r ≡ x → Shown w w' (shown_by_reply e x) → Shown w w' (shown_by_reply e r)
 shown_as w w' e r x h k = rw h k
 
 -- an event that is performed does to the clocks, and to who runs, what its reply shows
 pub shown-performs : (s : PolicySemantics) (w : World) (e : Event) (calls : List CounterCall) (r : Reply) (w' : World)
-    → refusal w e ≡ None → Performs s w e calls r w' → Shown w w' (sight e r)
+    → refusal w e ≡ None → Performs s w e calls r w' → Shown w w' (shown_by_reply e r)
 shown-performs s w (Admit id nice mask slice) calls r w' h k =
     shown_as w w' (Admit id nice mask slice) r Admitted k.1.1 (like w w w' None (ap (λ (v : World). v.processors) (sym k.3)) (same w))
 shown-performs s w (Retire id) calls r w' h k =
@@ -220,12 +220,12 @@ shown-performs s w (Pull processor from now) calls r w' h k =
     ∙ ap (λ (v : Processor). id_of v.running.current) (sym there')))))
 
 -- the same of whether the processor shown is there
-within_as : (n : ℕ) (e : Event) (r x : Reply) → r ≡ x → IsSightWithin n (sight e x) → IsSightWithin n (sight e r)
+within_as : (n : ℕ) (e : Event) (r x : Reply) → r ≡ x → IsShownWithin n (shown_by_reply e x) → IsShownWithin n (shown_by_reply e r)
 within_as n e r x h k = rw h k
 
 -- an event that is not refused names a processor that is there
 within-performs : (s : PolicySemantics) (w : World) (e : Event) (calls : List CounterCall) (r : Reply) (w' : World)
-    → refusal w e ≡ None → Performs s w e calls r w' → IsSightWithin (count_in w) (sight e r)
+    → refusal w e ≡ None → Performs s w e calls r w' → IsShownWithin (count_in w) (shown_by_reply e r)
 within-performs s w (EndWake processor now) calls r w' h k =
     within_as (count_in w) (EndWake processor now) r (Placed k.0.task.id k.0.to k.0.by k.0.steps) k.3
     (not_refused_is_there (count_in w) processor None (accepted w (EndWake processor now) h).0).0
@@ -251,7 +251,7 @@ within-performs s w (BeginWake processor id) calls r w' h k = within_as (count_i
 
 -- each step shows what its answer says, refused or not
 shown-step : (s : PolicySemantics) (w : World) (e : Event) (calls : List CounterCall) (a : Result Reply Refusal) (w' : World)
-    → WorldStep s w e calls a w' → Shown w w' (sight_of e a) × IsSightWithin (count_in w) (sight_of e a)
+    → WorldStep s w e calls a w' → Shown w w' (shown_by_answer e a) × IsShownWithin (count_in w) (shown_by_answer e a)
 shown-step s w e calls (Ok r) w' k = (shown-performs s w e calls r w' k.0 k.1, within-performs s w e calls r w' k.0 k.1)
 shown-step s w e calls (Err r) w' k = (like w w w' None (ap (λ (v : World). v.processors) (sym k.1)) (same w), tt)
 
@@ -271,9 +271,9 @@ reported-step count s w past e calls a w' t k =
     let h = shown-step s w e calls a w' k in
     record {
       many = h.0.count ∙ t.many;
-      within = (within_same _ _ (sight_of e a) (sym t.many) h.1, t.within);
-      last = λ j inside. h.0.last j (rw t.many inside) ∙ ap (λ n. clock_after j n (sight_of e a)) (t.last j inside);
-      who = λ j inside. h.0.who j (rw t.many inside) ∙ ap (λ n. runner_after j n (sight_of e a)) (t.who j inside);
+      within = (within_same _ _ (shown_by_answer e a) (sym t.many) h.1, t.within);
+      last = λ j inside. h.0.last j (rw t.many inside) ∙ ap (λ n. clock_after j n (shown_by_answer e a)) (t.last j inside);
+      who = λ j inside. h.0.who j (rw t.many inside) ∙ ap (λ n. runner_after j n (shown_by_answer e a)) (t.who j inside);
     }
 
 reported-run : (count : ℕ) (s : PolicySemantics) (w : World) (past : History) (es : List Event)

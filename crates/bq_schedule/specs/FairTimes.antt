@@ -6,7 +6,7 @@ use Rattle.bq_schedule.specs.declared.figures.ProcessorFigures.{ProcessorFigures
 use Rattle.bq_schedule.specs.Figures.{Figures, processor_in_figures, task_in_figures}
 use Rattle.bq_schedule.specs.Passing.{slice_at, slice_length, parts_per_weight}
 use Rattle.bq_schedule.specs.Runnable.{fair_at}
-use Rattle.bq_schedule.specs.Slices.{is_this, Sight}
+use Rattle.bq_schedule.specs.Slices.{is_this, ShownByAnswer}
 
 -- the weight that a task has at a processor: its own if it is runnable there, otherwise 0
 abbrev pub weight_there : ℕ → TaskFigures → ℕ
@@ -17,7 +17,7 @@ abbrev pub weights_at : Figures → ℕ → ℕ
 weights_at s processor = sum_by (weight_there processor) s.tasks
 
 -- what a reading gives to a task: its weight there, times what the slice gives to each unit of weight
-abbrev pub share : Figures → Option Sight → ℕ → ℕ
+abbrev pub share : Figures → Option ShownByAnswer → ℕ → ℕ
 share s None id = 0
 share s (Some x) id =
     weight_there x.processor (task_in_figures s id) * parts_per_weight (slice_length (slice_at x.processor (processor_in_figures s x.processor) x.now)) (weights_at s x.processor)

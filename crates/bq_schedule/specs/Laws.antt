@@ -14,7 +14,7 @@ use Rattle.bq_parts.specs.Choices.{under_any_answers}
 use Rattle.bq_schedule.specs.declared.slice.Slice.{Slice}
 use Rattle.bq_schedule.specs.declared.change.Start.{Start}
 use Rattle.bq_schedule.specs.declared.change.Stop.{Stop}
-use Rattle.bq_schedule.specs.Moments.{Moment, History}
+use Rattle.bq_schedule.specs.Histories.{AnsweredEvent, History}
 use Rattle.bq_schedule.specs.Figures.{processor_in_figures, task_in_figures}
 use Rattle.bq_schedule.specs.Running.{running_task}
 use Rattle.bq_schedule.specs.Counts.{parts_per_nanosecond}
@@ -22,21 +22,21 @@ use Rattle.bq_schedule.specs.Passing.{parts_per_weight}
 use Rattle.bq_schedule.specs.Observed.{observed_time, idle_in}
 use Rattle.bq_schedule.specs.Runnable.{fair_of}
 use Rattle.bq_schedule.specs.FairTimes.{share, all_fair, all_unshared, all_busy}
-use Rattle.bq_schedule.specs.Slices.{Sight, sight_of, clock, runner, slices, time_in, is_of, is_slice_at, StandApart, slices_at, runs}
+use Rattle.bq_schedule.specs.Slices.{ShownByAnswer, shown_by_answer, clock, runner, slices, time_in, is_of, is_slice_at, StandApart, slices_at, runs}
 use Rattle.bq_schedule.specs.Wakes.{begins_run, awaited}
 use Rattle.bq_schedule.specs.Steps.{change, figures}
 use Rattle.bq_schedule.specs.Switches.{BeginsAt, CeasesAt, why_left, starts_reported_at, stops_reported_at}
 use Rattle.bq_schedule.specs.Waits.{waits_since, reported_waits}
 
 -- what an answer shows is of one of this many processors
-abbrev pub IsSightWithin : ℕ → Option Sight → Type 0
-IsSightWithin count None = Unit {0}
-IsSightWithin count (Some s) = s.processor < count
+abbrev pub IsShownWithin : ℕ → Option ShownByAnswer → Type 0
+IsShownWithin count None = Unit {0}
+IsShownWithin count (Some s) = s.processor < count
 
 -- a history of this many processors
 abbrev pub IsOfProcessors : ℕ → History → Type 0
 IsOfProcessors count [] = Unit {0}
-IsOfProcessors count (m ∷ past) = IsSightWithin count (sight_of m.event m.answer) × IsOfProcessors count past
+IsOfProcessors count (m ∷ past) = IsShownWithin count (shown_by_answer m.event m.answer) × IsOfProcessors count past
 
 -- a history with some events and their answers on top
 abbrev pub history_grown : History → List Event → List (Result Reply Refusal) → History
@@ -60,9 +60,9 @@ ShowsClocks = (count : ℕ) (past : History) (processor : ℕ) → IsOfProcessor
     ((processor_in_figures (figures count past) processor).last ≡ clock processor past)
     × (running_task (processor_in_figures (figures count past) processor) ≡ runner processor past)
 
--- each moment reports the slice that it ends
+-- each answered event reports the slice that it ends
 abbrev pub ReportsSlices : Type 0
-ReportsSlices = (count : ℕ) (past : History) (m : Moment) → IsOfProcessors count (m ∷ past) →
+ReportsSlices = (count : ℕ) (past : History) (m : AnsweredEvent) → IsOfProcessors count (m ∷ past) →
     slices (m ∷ past) ≡ slices past ++ option_to_list (change (figures count past) m.event m.answer).slice
 
 -- the time of a task is the sum of its slices, and the time of a processor is the sum of its slices
@@ -92,16 +92,16 @@ FillsObservedTime = (count : ℕ) (past : History) (processor : ℕ) → count �
 -- A start is reported when its task starts running. If the task has not run since its last wake, the start reports the time from the
 -- end of that wake. So a wake has at most one latency: the time to its task's first run
 abbrev pub ReportsLatencies : Type 0
-ReportsLatencies = (count : ℕ) (past : History) (m : Moment) (start : Start) → IsOfProcessors count (m ∷ past) → start.task < TASKS →
+ReportsLatencies = (count : ℕ) (past : History) (m : AnsweredEvent) (start : Start) → IsOfProcessors count (m ∷ past) → start.task < TASKS →
     (change (figures count past) m.event m.answer).start ≡ Some start →
-    (begins_run start.task past (sight_of m.event m.answer) ≡ true)
+    (begins_run start.task past (shown_by_answer m.event m.answer) ≡ true)
     × (start.at ≡ clock start.processor (m ∷ past))
     × (start.latency ≡ option_map (λ (woken : ℕ). start.at - woken) (awaited start.task past))
 
 -- the fair time of a task rises at a reading by its share of the slice, and changes at nothing else
 abbrev pub SharesOut : Type 0
-SharesOut = (count : ℕ) (past : History) (m : Moment) (id : ℕ) → count ≤ 255 → IsOfProcessors count (m ∷ past) →
-    fair_of (figures count (m ∷ past)) id ≡ fair_of (figures count past) id + share (figures count past) (sight_of m.event m.answer) id
+SharesOut = (count : ℕ) (past : History) (m : AnsweredEvent) (id : ℕ) → count ≤ 255 → IsOfProcessors count (m ∷ past) →
+    fair_of (figures count (m ∷ past)) id ≡ fair_of (figures count past) id + share (figures count past) (shown_by_answer m.event m.answer) id
 
 -- all fair times, and the parts that could not be shared out, add up to the time in which any task ran
 abbrev pub AddsUpFairTimes : Type 0
@@ -113,8 +113,8 @@ AddsUpFairTimes = (count : ℕ) (past : History) → count ≤ 255 → IsOfProce
 abbrev pub LeavesLittle : Type 0
 LeavesLittle = (time weight : ℕ) → 0 < weight → time * parts_per_nanosecond - weight * parts_per_weight time weight < weight
 
--- the run that a moment reports, if it is of this processor
-abbrev pub reported_if : ℕ → Option Sight → Option Slice → List Slice
+-- the run that an answered event reports, if it is of this processor
+abbrev pub reported_if : ℕ → Option ShownByAnswer → Option Slice → List Slice
 reported_if processor None run = []
 reported_if processor (Some s) run = if s.processor == processor then option_to_list run else []
 
@@ -122,7 +122,7 @@ reported_if processor (Some s) run = if s.processor == processor then option_to_
 abbrev pub reported_runs : ℕ → ℕ → History → List Slice
 reported_runs count processor [] = []
 reported_runs count processor (m ∷ past) =
-    reported_runs count processor past ++ reported_if processor (sight_of m.event m.answer) (change (figures count past) m.event m.answer).run
+    reported_runs count processor past ++ reported_if processor (shown_by_answer m.event m.answer) (change (figures count past) m.event m.answer).run
 
 -- the reported runs of a processor and its last run, which may go on, are the runs that the slices there make
 abbrev pub ReportsRuns : Type 0
@@ -132,14 +132,14 @@ ReportsRuns = (count : ℕ) (past : History) (processor : ℕ) → IsOfProcessor
 -- a start is reported exactly when a task starts running: each task that starts is reported, and each reported start is of a task that
 -- starts there, with the reading of that processor's clock
 abbrev pub ReportsStarts : Type 0
-ReportsStarts = (count : ℕ) (past : History) (m : Moment) → IsOfProcessors count (m ∷ past) →
+ReportsStarts = (count : ℕ) (past : History) (m : AnsweredEvent) → IsOfProcessors count (m ∷ past) →
     let reported = (change (figures count past) m.event m.answer).start in
     ((processor task : ℕ) → processor < count → BeginsAt processor task m past → IsSomeAnd reported (λ s. (s.processor ≡ processor) × (s.task ≡ task)))
     × IfSome reported (λ s. (s.processor < count) × BeginsAt s.processor s.task m past × (s.at ≡ clock s.processor (m ∷ past)))
 
 -- a stop is reported exactly when a task stops running, with the reading of the processor's clock and the reason
 abbrev pub ReportsStops : Type 0
-ReportsStops = (count : ℕ) (past : History) (m : Moment) → IsOfProcessors count (m ∷ past) →
+ReportsStops = (count : ℕ) (past : History) (m : AnsweredEvent) → IsOfProcessors count (m ∷ past) →
     let reported = (change (figures count past) m.event m.answer).stop in
     ((processor task : ℕ) → processor < count → CeasesAt processor task m past → IsSomeAnd reported (λ s. (s.start.processor ≡ processor) × (s.start.task ≡ task)))
     × IfSome reported (λ s.
@@ -157,7 +157,7 @@ EndsStarts = (count : ℕ) (past : History) (processor : ℕ) → IsOfProcessors
 -- a start reports how long its task has waited: from when it was placed, preempted or pulled to the start. A pull reports how long
 -- the task had waited until then. A wait that would be negative, because clocks disagree, is 0
 abbrev pub ReportsWaits : Type 0
-ReportsWaits = (count : ℕ) (past : History) (m : Moment) → IsOfProcessors count (m ∷ past) →
+ReportsWaits = (count : ℕ) (past : History) (m : AnsweredEvent) → IsOfProcessors count (m ∷ past) →
     let reported = change (figures count past) m.event m.answer in
     IfSome reported.start (λ s. s.task < TASKS → s.waited ≡ s.at - waits_since s.task (m ∷ past))
     × IfSome reported.pull (λ p. p.task < TASKS → p.waited ≡ p.at - waits_since p.task past)

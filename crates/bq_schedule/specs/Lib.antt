@@ -1,4 +1,4 @@
-pub mod Moments
+pub mod Histories
 pub mod Counts
 pub mod Figures
 pub mod Passing

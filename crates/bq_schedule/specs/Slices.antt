@@ -8,7 +8,7 @@ use Rattle.bq_parts.specs.declared.reply.Reply.{Reply}
 use Rattle.bq_parts.specs.declared.reply.Reply.TheVariants.{Placed, Drained, Ticked, Blocked, Pulled}
 use Rattle.bq_parts.specs.declared.refusal.Refusal.{Refusal}
 use Rattle.bq_schedule.specs.declared.slice.Slice.{Slice}
-use Rattle.bq_schedule.specs.Moments.{History}
+use Rattle.bq_schedule.specs.Histories.{History}
 use Rattle.bq_schedule.specs.Passing.{continues_run}
 
 -- there is a number, and it is this one
@@ -17,59 +17,59 @@ is_this number None = false
 is_this number (Some k) = k == number
 
 -- what an answer shows of a processor: the reading of its clock, and the task that runs there from then on, if the answer says so
-pub record Sight : Type 0 where
+pub record ShownByAnswer : Type 0 where
   pub processor : ℕ
   pub now : ℕ
   pub run : Option (Option ℕ)
 
 -- what a reply to an event shows; a reply that is not of the event's kind shows nothing
-abbrev pub sight : Event → Reply → Option Sight
-sight (EndWake processor now) (Placed task to by steps) = Some (record { processor = processor; now = now; run = None })
-sight (Drain processor now) (Drained count run by steps) = Some (record { processor = processor; now = now; run = Some run })
-sight (Tick processor now) (Ticked run by steps) = Some (record { processor = processor; now = now; run = Some run })
-sight (Block processor now) (Blocked task run) = Some (record { processor = processor; now = now; run = Some run })
-sight (Pull processor from now) (Pulled task run by steps) = Some (record { processor = processor; now = now; run = Some run })
-sight e r = None
+abbrev pub shown_by_reply : Event → Reply → Option ShownByAnswer
+shown_by_reply (EndWake processor now) (Placed task to by steps) = Some (record { processor = processor; now = now; run = None })
+shown_by_reply (Drain processor now) (Drained count run by steps) = Some (record { processor = processor; now = now; run = Some run })
+shown_by_reply (Tick processor now) (Ticked run by steps) = Some (record { processor = processor; now = now; run = Some run })
+shown_by_reply (Block processor now) (Blocked task run) = Some (record { processor = processor; now = now; run = Some run })
+shown_by_reply (Pull processor from now) (Pulled task run by steps) = Some (record { processor = processor; now = now; run = Some run })
+shown_by_reply e r = None
 
 -- a refused event shows nothing
-abbrev pub sight_of : Event → Result Reply Refusal → Option Sight
-sight_of e (Ok r) = sight e r
-sight_of e (Err r) = None
+abbrev pub shown_by_answer : Event → Result Reply Refusal → Option ShownByAnswer
+shown_by_answer e (Ok r) = shown_by_reply e r
+shown_by_answer e (Err r) = None
 
 -- the last reading of a processor's clock, after what an answer shows
-abbrev pub clock_after : ℕ → ℕ → Option Sight → ℕ
+abbrev pub clock_after : ℕ → ℕ → Option ShownByAnswer → ℕ
 clock_after processor last None = last
 clock_after processor last (Some s) = if s.processor == processor then reading last s.now else last
 
 -- the last reading of a processor's clock in a history, 0 if there was none
 abbrev pub clock : ℕ → History → ℕ
 clock processor [] = 0
-clock processor (m ∷ past) = clock_after processor (clock processor past) (sight_of m.event m.answer)
+clock processor (m ∷ past) = clock_after processor (clock processor past) (shown_by_answer m.event m.answer)
 
 -- the task that runs at a processor, after what an answer shows
-abbrev pub runner_after : ℕ → Option ℕ → Option Sight → Option ℕ
+abbrev pub runner_after : ℕ → Option ℕ → Option ShownByAnswer → Option ℕ
 runner_after processor who None = who
 runner_after processor who (Some s) = if s.processor == processor then unwrap_or s.run who else who
 
 -- the task that runs at a processor after a history, if one does
 abbrev pub runner : ℕ → History → Option ℕ
 runner processor [] = None
-runner processor (m ∷ past) = runner_after processor (runner processor past) (sight_of m.event m.answer)
+runner processor (m ∷ past) = runner_after processor (runner processor past) (shown_by_answer m.event m.answer)
 
 -- the slice of the running task from one reading to another, unless it is empty
 abbrev pub slice_of : ℕ → Option ℕ → ℕ → ℕ → Option Slice
 slice_of processor None from to = None
 slice_of processor (Some id) from to = if nat_lt from to then Some (record { processor = processor; task = id; from = from; to = to }) else None
 
--- the slice that a moment ends, after the history before it
-abbrev pub slice_shown : History → Option Sight → Option Slice
+-- the slice that an answered event ends, after the history before it
+abbrev pub slice_shown : History → Option ShownByAnswer → Option Slice
 slice_shown past None = None
 slice_shown past (Some s) = slice_of s.processor (runner s.processor past) (clock s.processor past) (reading (clock s.processor past) s.now)
 
 -- all slices of a history, in the order in which they ended
 abbrev pub slices : History → List Slice
 slices [] = []
-slices (m ∷ past) = slices past ++ option_to_list (slice_shown past (sight_of m.event m.answer))
+slices (m ∷ past) = slices past ++ option_to_list (slice_shown past (shown_by_answer m.event m.answer))
 
 -- the length of a slice if it is chosen, otherwise 0
 abbrev pub time_if : (Slice → Bool) → Slice → ℕ

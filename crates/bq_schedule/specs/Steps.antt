@@ -1,4 +1,4 @@
--- What each moment changes in the figures, and what is reported of it.
+-- What each answered event changes in the figures, and what is reported of it.
 use Rattle.std.specs.Prelude.{ℕ, ◌-◌, ℤ, true, false, Bool, ◌||◌, ◌&&◌, not, nat_lt, [], ◌∷◌, length, Option, Some, None, Result, Ok, Err, if◌then◌else◌}
 use Rattle.std.specs.Option.{option_map}
 use Rattle.bq_weights.specs.VirtualTime.{is_nice, weight_of}
@@ -19,7 +19,7 @@ use Rattle.bq_schedule.specs.declared.change.StopReason.TheVariants.{Preempted, 
 use Rattle.bq_schedule.specs.declared.figures.ProcessorFigures.{ProcessorFigures}
 use Rattle.bq_schedule.specs.declared.figures.HookFigures.{HookFigures}
 use Rattle.bq_disc.specs.Counts.{saturating_sum}
-use Rattle.bq_schedule.specs.Moments.{History}
+use Rattle.bq_schedule.specs.Histories.{History}
 use Rattle.bq_schedule.specs.Figures.{Figures, opening_figures, processor_in_figures, task_in_figures, figures_with_processor, figures_with_task}
 use Rattle.bq_schedule.specs.Passing.{reading_at, slice_at, ended_run, figures_read}
 use Rattle.bq_schedule.specs.Runnable.{figures_left, comes}
@@ -68,7 +68,7 @@ weight_or_zero nice = if is_nice nice then weight_of nice else 0
 abbrev pub figures_admitted : ℕ → ℤ → Figures → Figures
 figures_admitted id nice s = figures_with_task s id (record (task_in_figures s id) { is_admitted = true; nice = nice; weight = weight_or_zero nice })
 
--- the wake of a placed task ended at this moment
+-- the wake of a placed task ended now
 abbrev pub figures_woken : ℕ → ℕ → ℕ → Figures → Figures
 figures_woken id processor now s =
     let t = task_in_figures s id in

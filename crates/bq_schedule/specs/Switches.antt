@@ -1,4 +1,4 @@
--- Which task starts running at a moment, and which stops; and the starts and stops that are reported.
+-- Which task starts running with an answered event, and which stops; and the starts and stops that are reported.
 use Rattle.std.specs.Prelude.{◌≡◌, ◌≢◌, ℕ, Bool, List, [], ◌∷◌, ◌++◌, ◌==◌, filter, Some, option_to_list}
 use Rattle.bq_parts.specs.declared.event.Event.{Event}
 use Rattle.bq_parts.specs.declared.event.Event.TheVariants.{Block}
@@ -6,16 +6,16 @@ use Rattle.bq_schedule.specs.declared.change.Start.{Start}
 use Rattle.bq_schedule.specs.declared.change.Stop.{Stop}
 use Rattle.bq_schedule.specs.declared.change.StopReason.{StopReason}
 use Rattle.bq_schedule.specs.declared.change.StopReason.TheVariants.{Preempted, Blocked}
-use Rattle.bq_schedule.specs.Moments.{Moment, History}
+use Rattle.bq_schedule.specs.Histories.{AnsweredEvent, History}
 use Rattle.bq_schedule.specs.Slices.{runner}
 use Rattle.bq_schedule.specs.Steps.{change, figures}
 
--- a task starts running at a processor with a moment: it runs there from then on, and did not before
-abbrev pub BeginsAt : ℕ → ℕ → Moment → History → Type 0
+-- a task starts running at a processor with an answered event: it runs there from then on, and did not before
+abbrev pub BeginsAt : ℕ → ℕ → AnsweredEvent → History → Type 0
 BeginsAt processor task m past = (runner processor (m ∷ past) ≡ Some task) × (runner processor past ≢ Some task)
 
--- a task stops running at a processor with a moment: it ran there before, and does not from then on
-abbrev pub CeasesAt : ℕ → ℕ → Moment → History → Type 0
+-- a task stops running at a processor with an answered event: it ran there before, and does not from then on
+abbrev pub CeasesAt : ℕ → ℕ → AnsweredEvent → History → Type 0
 CeasesAt processor task m past = (runner processor past ≡ Some task) × (runner processor (m ∷ past) ≢ Some task)
 
 -- why a task stops running: at a block it goes to sleep, and at any other event another task runs instead

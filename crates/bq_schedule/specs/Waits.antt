@@ -9,7 +9,7 @@ use Rattle.bq_parts.specs.declared.refusal.Refusal.{Refusal}
 use Rattle.bq_schedule.specs.declared.change.Change.{Change}
 use Rattle.bq_schedule.specs.declared.change.Start.{Start}
 use Rattle.bq_schedule.specs.declared.change.PulledTask.{PulledTask}
-use Rattle.bq_schedule.specs.Moments.{History}
+use Rattle.bq_schedule.specs.Histories.{History}
 use Rattle.bq_schedule.specs.Slices.{clock, runner, is_this}
 use Rattle.bq_schedule.specs.Steps.{change, figures}
 
@@ -17,11 +17,11 @@ use Rattle.bq_schedule.specs.Steps.{change, figures}
 abbrev pub gives_way : ℕ → Option ℕ → Option ℕ → Bool
 gives_way id who run = is_this id who && not (is_this id run)
 
--- this moment, if a condition holds
+-- this point in time, if a condition holds
 abbrev pub then_if : Bool → ℕ → Option ℕ
 then_if b at = if b then Some at else None
 
--- when a moment makes the task wait, by the clock of the event's processor: the task is placed, pulled or preempted
+-- when an answered event makes the task wait, by the clock of the event's processor: the task is placed, pulled or preempted
 abbrev pub wait_begins : ℕ → History → Event → Result Reply Refusal → Option ℕ
 wait_begins id past (EndWake processor now) (Ok (Placed task to by steps)) = then_if (task == id) (reading (clock processor past) now)
 wait_begins id past (Drain processor now) (Ok (Drained count run by steps)) = then_if (gives_way id (runner processor past) run) (reading (clock processor past) now)

@@ -6,8 +6,8 @@ use Rattle.bq_parts.specs.declared.event.Event.TheVariants.{EndWake}
 use Rattle.bq_parts.specs.declared.reply.Reply.{Reply}
 use Rattle.bq_parts.specs.declared.reply.Reply.TheVariants.{Placed}
 use Rattle.bq_parts.specs.declared.refusal.Refusal.{Refusal}
-use Rattle.bq_schedule.specs.Moments.{History}
-use Rattle.bq_schedule.specs.Slices.{is_this, Sight, sight_of, clock, runner}
+use Rattle.bq_schedule.specs.Histories.{History}
+use Rattle.bq_schedule.specs.Slices.{is_this, ShownByAnswer, shown_by_answer, clock, runner}
 
 -- the task starts running: it runs from now on, and did not before
 abbrev pub begins_as : ℕ → Option ℕ → Option (Option ℕ) → Bool
@@ -15,7 +15,7 @@ begins_as id who None = false
 begins_as id who (Some run) = is_this id run && not (is_this id who)
 
 -- the task starts running with what an answer shows
-abbrev pub begins_run : ℕ → History → Option Sight → Bool
+abbrev pub begins_run : ℕ → History → Option ShownByAnswer → Bool
 begins_run id past None = false
 begins_run id past (Some s) = begins_as id (runner s.processor past) s.run
 
@@ -33,4 +33,4 @@ awaited_after None has_begun before = if has_begun then None else before
 abbrev pub awaited : ℕ → History → Option ℕ
 awaited id [] = None
 awaited id (m ∷ past) =
-    awaited_after (wake_end id past m.event m.answer) (begins_run id past (sight_of m.event m.answer)) (awaited id past)
+    awaited_after (wake_end id past m.event m.answer) (begins_run id past (shown_by_answer m.event m.answer)) (awaited id past)

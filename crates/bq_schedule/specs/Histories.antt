@@ -4,11 +4,11 @@ use Rattle.bq_parts.specs.declared.event.Event.{Event}
 use Rattle.bq_parts.specs.declared.reply.Reply.{Reply}
 use Rattle.bq_parts.specs.declared.refusal.Refusal.{Refusal}
 
--- an event, and its answer
-pub record Moment : Type 0 where
+-- an event that was answered, and its answer
+pub record AnsweredEvent : Type 0 where
   pub event : Event
   pub answer : Result Reply Refusal
 
--- a history, with its last moment first
+-- a history, with its last event first
 abbrev pub History : Type 0
-History = List Moment
+History = List AnsweredEvent
