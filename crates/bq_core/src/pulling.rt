@@ -1,8 +1,7 @@
 //! The event by which work spreads: a processor takes a task from the queue of another.
-ghost use Rattle.std.specs.Prelude.{◌≡◌, ◌≢◌, ◌≤◌, ◌<◌, ◌++◌, [], length, slice_index_or};
-ghost use Rattle.bq_disc.specs.OneProcessor.{present_at};
+ghost use Rattle.std.specs.Prelude.{◌≡◌, ◌≢◌, ◌≤◌, ◌<◌, [], length};
 ghost use Rattle.bq_bpf.specs.Counters.{Through};
-ghost use Rattle.bq_parts.specs.Processors.{new_processor, HasEachOnce, HasIdsBelowTasks};
+ghost use Rattle.bq_parts.specs.Processors.{present_at_both, HasEachOnce, HasIdsBelowTasks};
 ghost use Rattle.bq_parts.specs.World.{count_in};
 ghost use Rattle.bq_parts.specs.Choices.{by_programs};
 ghost use Rattle.bq_parts.specs.Shares.{PullsBetween};
@@ -54,8 +53,8 @@ fn pull_between<Q: RunQueue, B: Board>(
     requires inside { processor < length cpus.old }
     requires inside_from { from < length cpus.old }
     requires apart { processor ≢ from }
-    requires once { HasEachOnce (present_at (slice_index_or cpus.old processor new_processor).running ++ present_at (slice_index_or cpus.old from new_processor).running) }
-    requires ids { HasIdsBelowTasks (present_at (slice_index_or cpus.old processor new_processor).running ++ present_at (slice_index_or cpus.old from new_processor).running) }
+    requires once { HasEachOnce (present_at_both cpus.old processor from) }
+    requires ids { HasIdsBelowTasks (present_at_both cpus.old processor from) }
     requires no_calls { scratch.old ≡ [] }
     ensures share { PullsBetween (by_programs Q.R.discipline) processor from now cpus.old scratch.new result cpus.new }
     ensures board { Through B.leads board.old scratch.new board.new }

@@ -98,7 +98,7 @@ none_beyond_at w processor id l o h =
       count_of-append id (present_at p.running) (inbox w processor),
     )
 
--- the tasks that run or wait at a processor have ids of the lobby
+-- the tasks that run or wait at a processor have ids below TASKS
 pub ids_running : (w : World) (processor : ℕ) → length w.lobby ≡ 1024 → IsOrderly w
     → HasIdsBelowTasks (present_at (processor_at w processor).running)
 ids_running w processor l o = λ id h. omega (
@@ -126,7 +126,7 @@ each_once_two w processor from n o = λ id.
       count_of-append id (present_at p.running) (present_at q.running),
     )
 
--- two processors have no task with an id beyond the lobby
+-- two processors have no task with an id of TASKS or more
 pub ids_two : (w : World) (processor from : ℕ) → length w.lobby ≡ 1024 → IsOrderly w
     → HasIdsBelowTasks (present_at (processor_at w processor).running ++ present_at (processor_at w from).running)
 ids_two w processor from l o = λ id h.

@@ -1,5 +1,5 @@
 -- A processor as the world sees it: who runs and waits there, the task in its hand, and what is installed at its hooks.
-use Rattle.std.specs.Prelude.{◌≡◌, ℕ, ◌+◌, ◌≤◌, List, [], ◌∷◌, ◌++◌, length, Option, None, if◌then◌else◌}
+use Rattle.std.specs.Prelude.{◌≡◌, ℕ, ◌+◌, ◌≤◌, List, [], ◌∷◌, ◌++◌, length, slice_index_or, Option, None, if◌then◌else◌}
 use Rattle.std.specs.Option.{option_map, option_to_list}
 use Rattle.bq_disc.specs.declared.limits.TheConstants.{TASKS}
 use Rattle.bq_disc.specs.Tasks.{Task, has_id}
@@ -32,6 +32,10 @@ size_of p = length (present_at p.running)
 -- load: the size, and the tasks of the inbox
 abbrev pub load_of : Processor → List Task → ℕ
 load_of p inbox = size_of p + length inbox
+
+-- all tasks that run or wait at two of these processors
+abbrev pub present_at_both : List Processor → ℕ → ℕ → List Task
+present_at_both ps processor from = present_at (slice_index_or ps processor new_processor).running ++ present_at (slice_index_or ps from new_processor).running
 
 -- how many of the tasks have this id
 abbrev pub count_of_id : ℕ → List Task → ℕ
