@@ -4,7 +4,8 @@ use Rattle.std.specs.Option.{option_map, option_to_list}
 use Rattle.bq_disc.specs.declared.limits.TheConstants.{TASKS}
 use Rattle.bq_disc.specs.Tasks.{Task, has_id}
 use Rattle.bq_disc.specs.OneProcessor.{Running, at_rest, present_at}
-use Rattle.bq_installed.specs.Installed.{HooksFacts, new_hooks}
+use Rattle.bq_hooks.specs.declared.hook.Hook.{Hook}
+use Rattle.bq_installed.specs.Installed.{InstalledFacts, HooksFacts, new_hooks, with_installed}
 use Rattle.bq_parts.specs.declared.carried.Carried.{Carried}
 
 -- a processor: its tasks, the woken task that it is to place, and what is installed at its hooks
@@ -16,6 +17,10 @@ pub record Processor : Type 0 where
 -- a processor to which nothing has come, with nothing installed
 abbrev pub new_processor : Processor
 new_processor = record { running = at_rest; hand = None; hooks = new_hooks }
+
+-- the processor with this in place of what is installed at a hook
+abbrev pub with_at_hook : Hook → Processor → InstalledFacts → Processor
+with_at_hook hook p installed = record p { hooks = with_installed hook p.hooks installed }
 
 -- the task in a processor's hand, if any
 abbrev pub in_hand : Processor → List Task

@@ -8,9 +8,9 @@ ghost use Rattle.bq_disc.specs.Pulls.{pull_of};
 ghost use Rattle.bq_disc.specs.Discipline.{left_at};
 ghost use Rattle.bq_disc.specs.Chains.{task_of, chain_behind, IsStraightBehind};
 ghost use Rattle.bq_disc.specs.OneProcessor.{charge, marked, choice_started, switched, enter_all, entered, present_at};
-ghost use Rattle.bq_installed.specs.Installed.{at_hook, with_installed, IsFor};
+ghost use Rattle.bq_installed.specs.Installed.{at_hook, IsFor};
 ghost use Rattle.bq_installed.specs.Standing.{WasAnswered};
-ghost use Rattle.bq_parts.specs.Processors.{new_processor, load_of, size_of, count_of_id, HasEachOnce};
+ghost use Rattle.bq_parts.specs.Processors.{new_processor, with_at_hook, load_of, size_of, count_of_id, HasEachOnce};
 ghost use Rattle.bq_parts.specs.Moves.{taken_from, without_task, with_pulled, started_if_idle};
 
 use crate::{Carried, Inbox, Unlinked};
@@ -293,7 +293,7 @@ impl<Q: RunQueue> Cpu<Q> {
     /// Replaces what is installed at a hook.
     pub fn install(&mut self, hook: Hook, installed: Installed)
         requires { IsFor hook installed.policy }
-        ensures { self.new ≡ record self.old { hooks = with_installed hook self.old.hooks installed } }
+        ensures { self.new ≡ with_at_hook hook self.old installed }
     {
         self.hooks.install(hook, installed);
     }

@@ -9,7 +9,7 @@ ghost use Rattle.bq_hooks.specs.Contexts.{as_number};
 ghost use Rattle.bq_hooks.specs.OwnPlace.{HasPlace};
 ghost use Rattle.bq_disc.specs.Queues.{HasDistinctIds};
 ghost use Rattle.bq_disc.specs.OneProcessor.{present_at};
-ghost use Rattle.bq_parts.specs.Processors.{HasEachOnce, HasIdsBelowTasks, size_of};
+ghost use Rattle.bq_parts.specs.Processors.{with_at_hook, HasEachOnce, HasIdsBelowTasks, size_of};
 ghost use Rattle.bq_parts.specs.Choices.{by_programs, place_bytes, SettlesPlace, SettlesPreempt, SettlesPulled, decided_by, decision_of};
 
 use crate::{Carried, Cpu, HookDecision};
@@ -47,7 +47,7 @@ impl<Q: RunQueue> Cpu<Q> {
         requires usable { HasPlace count carried.now.task }
         requires no_calls { scratch.old ≡ [] }
         ensures settled { SettlesPlace (by_programs Q.R.discipline) count processor self.old carried.now (decision_of (λ number. number) result scratch.new self.new.hooks.place) }
-        ensures rest { self.new ≡ record self.old { hooks = record self.old.hooks { place = self.new.hooks.place } } }
+        ensures rest { self.new ≡ with_at_hook Hook.Place self.old self.new.hooks.place }
         ensures board { Through B.leads board.old scratch.new board.new }
     {
         let task = &carried.task.node().entity;
@@ -79,7 +79,7 @@ impl<Q: RunQueue> Cpu<Q> {
         ensures answers { AnswersAt self.old.hooks.place (place_bytes facts.now version) self.old.running.last processor result.r0 self.new.hooks.place.maps result.steps scratch.new }
         ensures within { IfSome self.old.hooks.place.policy (λ p. RunsWithin p result.steps scratch.new) }
         ensures shapes { IfSome self.old.hooks.place.policy (λ p. HaveShapes p.shapes self.new.hooks.place.maps) }
-        ensures rest { self.new ≡ record self.old { hooks = record self.old.hooks { place = record self.old.hooks.place { maps = self.new.hooks.place.maps } } } }
+        ensures rest { self.new ≡ with_at_hook Hook.Place self.old (record self.old.hooks.place { maps = self.new.hooks.place.maps }) }
         ensures board { Through B.leads board.old scratch.new board.new }
     {
         let env = self.env(processor);
@@ -108,7 +108,7 @@ impl<Q: RunQueue> Cpu<Q> {
         requires few { length self.old.running.queue < 2 ^ 32 }
         requires no_calls { scratch.old ≡ [] }
         ensures settled { SettlesPreempt (by_programs Q.R.discipline) processor self.old self.old.running.current (decision_of as_number result scratch.new self.new.hooks.preempt) }
-        ensures rest { self.new ≡ record self.old { hooks = record self.old.hooks { preempt = self.new.hooks.preempt } } }
+        ensures rest { self.new ≡ with_at_hook Hook.Preempt self.old self.new.hooks.preempt }
         ensures board { Through B.leads board.old scratch.new board.new }
     {
         let Some(current) = &self.current else {
@@ -169,7 +169,7 @@ impl<Q: RunQueue> Cpu<Q> {
         requires distinct { HasDistinctIds source.now.running.queue }
         requires no_calls { scratch.old ≡ [] }
         ensures settled { SettlesPulled (by_programs Q.R.discipline) processor from self.old source.now result scratch.new self.new.hooks.pull }
-        ensures rest { self.new ≡ record self.old { hooks = record self.old.hooks { pull = self.new.hooks.pull } } }
+        ensures rest { self.new ≡ with_at_hook Hook.Pull self.old self.new.hooks.pull }
         ensures board { Through B.leads board.old scratch.new board.new }
     {
         let size = self.size();
