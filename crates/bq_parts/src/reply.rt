@@ -8,7 +8,7 @@ use bq_hooks::{By, Loads};
 pub enum Reply {
     /// The task is in the lobby.
     Admitted,
-    /// The task is gone.
+    /// The task left the lobby for good.
     Retired,
     /// A generation was drawn.
     Drawn {
