@@ -19,7 +19,7 @@ use Rattle.bq_eevdf.specs.Eevdf.{eevdf, is_eligible}
 use Rattle.bq_eevdf.proofs.EarliestLemmas.{choice_is_earliest}
 use Rattle.bq_why.specs.Laws.{EligibleUpToTheMean, LowerIdWins, NamesThePull, is_taken}
 use Rattle.bq_why.specs.Rivals.{is_tied, tied_with}
-use Rattle.bq_why.specs.declared.pull_sight.OwnPull.TheVariants.{TooFew, NoneMayGo, Greatest}
+use Rattle.bq_why.specs.declared.pull_facts.OwnPull.TheVariants.{TooFew, NoneMayGo, Greatest}
 
 -- a product is at most a sum exactly where a factor is at most the quotient
 quotient_tests : (w v s : ℕ) → 0 < w → nat_le (w * v) s ≡ nat_le v (s / w)

@@ -9,8 +9,8 @@ use Rattle.bq_trace.specs.Machines.{discipline_of}
 use Rattle.bq_why.specs.Rows.{row_of_task}
 use Rattle.bq_why.specs.Rivals.{tied_with}
 use Rattle.bq_why.specs.Pulls.{own_pull_of}
-use Rattle.bq_why.specs.declared.pull_sight.OwnPull.{OwnPull}
-use Rattle.bq_why.specs.declared.pull_sight.OwnPull.TheVariants.{Greatest}
+use Rattle.bq_why.specs.declared.pull_facts.OwnPull.{OwnPull}
+use Rattle.bq_why.specs.declared.pull_facts.OwnPull.TheVariants.{Greatest}
 
 -- a task is eligible exactly when its v is at most the mean of the tasks that are there, rounded down
 abbrev pub EligibleUpToTheMean : Type 0

@@ -6,7 +6,7 @@ use Rattle.bq_report.specs.Amounts.{millis_text}
 use Rattle.bq_words.specs.declared.discipline_name.DisciplineName.{DisciplineName}
 use Rattle.bq_words.specs.declared.discipline_name.DisciplineName.TheVariants.{Cfs, Eevdf}
 use Rattle.bq_why.specs.declared.task_row.TaskRow.{TaskRow}
-use Rattle.bq_why.specs.declared.texts.StandingText.{StandingText}
+use Rattle.bq_why.specs.declared.texts.MarkText.{MarkText}
 use Rattle.bq_why.specs.Rows.{apart}
 
 -- the processor at which an event may choose, and the event's time
@@ -50,5 +50,5 @@ origin_name Cfs = codes "least v"
 origin_name Eevdf = codes "mean"
 
 -- the mark of a processor, and what the discipline measures its tasks from
-abbrev pub standing_text : StandingText → List ℕ
-standing_text s = codes "mark " ++ (virtual_text s.mark ++ (codes "  " ++ (origin_name s.discipline ++ (codes " " ++ virtual_text s.from))))
+abbrev pub mark_text : MarkText → List ℕ
+mark_text s = codes "mark " ++ (virtual_text s.mark ++ (codes "  " ++ (origin_name s.discipline ++ (codes " " ++ virtual_text s.from))))

@@ -7,7 +7,7 @@ use crate::presence::present;
 use crate::reasons::{Reason, choice_reason};
 use crate::rival_text::{write_deadlines, write_equal_runtime, write_giving_way};
 use crate::task_row::{TaskRow, measured_from, rows};
-use crate::texts::{IdsText, LagText, StandingText, TaskText, VirtualTime, eligibility};
+use crate::texts::{IdsText, LagText, MarkText, TaskText, VirtualTime, eligibility};
 use bq_cfs::GRANULARITY;
 use bq_disc::Entity;
 use bq_disc::limits::TASKS;
@@ -44,12 +44,12 @@ pub(crate) fn write_choice(
         None => return Ok(()),
     };
     if let Some(from) = measured_from(discipline, tasks.as_slice()) {
-        let standing = StandingText {
+        let mark_text = MarkText {
             discipline,
             mark,
             from,
         };
-        write!(text, "    {standing}\n")?;
+        write!(text, "    {mark_text}\n")?;
     }
     let rows = rows(alloc, tasks.as_slice())?;
     write_rows(alloc, text, names, discipline, rows.as_slice(), choice.run)?;

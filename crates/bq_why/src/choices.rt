@@ -50,14 +50,14 @@ fn run_first(task: &Entity, other: Option<Entity>) -> Entity
 
 /// The task of least (deadline, id) among those whose v is at most the mean. The tasks have this weight and this sum of weight
 /// times v together.
-fn earliest(tasks: &[Entity], weight: u64, moment: u128) -> Option<Entity>
-    ensures { result ≡ first_by due_before (filter (is_at_most_mean weight moment) tasks.now) }
+fn earliest(tasks: &[Entity], weight: u64, weighted_sum: u128) -> Option<Entity>
+    ensures { result ≡ first_by due_before (filter (is_at_most_mean weight weighted_sum) tasks.now) }
 {
     let mut best: Option<Entity> = None;
     let mut at = tasks.len();
     while at > 0 {
         at -= 1;
-        if tasks[at].is_at_most_mean(weight, moment) {
+        if tasks[at].is_at_most_mean(weight, weighted_sum) {
             best = Some(due_first(&tasks[at], best));
         }
     }

@@ -1,7 +1,7 @@
 //! Where a woken task is placed, and which task is pulled, in words.
 
 use crate::asked::Asked;
-use crate::pull_sight::{OwnPull, PullSight};
+use crate::pull_facts::{OwnPull, PullFacts};
 use crate::texts::TaskText;
 use bq_hooks::{By, Hook};
 use bq_report::Names;
@@ -28,18 +28,18 @@ pub(crate) fn write_place(
 }
 
 /// Adds the sizes of both processors, how many tasks may go, and the first of these by falling (v, id).
-pub(crate) fn write_sight(
+pub(crate) fn write_pull_facts(
     text: &mut String,
     names: &Names,
-    sight: &PullSight,
+    facts: &PullFacts,
 ) -> Result<(), AllocError> {
-    let PullSight {
+    let PullFacts {
         puller,
         other,
         size,
         other_size,
         ref movable,
-    } = *sight;
+    } = *facts;
     let count = movable.count;
     write!(
         text,
@@ -67,7 +67,7 @@ pub(crate) fn write_sight(
 pub(crate) fn write_pull(
     text: &mut String,
     names: &Names,
-    sight: &PullSight,
+    facts: &PullFacts,
     task: Option<u16>,
     by: By,
     asked: &Asked,
@@ -83,16 +83,16 @@ pub(crate) fn write_pull(
         By::Policy => asked.write_answer(text, Hook::Pull.word()),
         By::Discipline => {
             asked.write_overruled(text)?;
-            write_own_pull(text, sight)
+            write_own_pull(text, facts)
         }
     }
 }
 
 /// Ends a line with why the discipline takes the task that it takes, or none.
-fn write_own_pull(text: &mut String, sight: &PullSight) -> Result<(), AllocError> {
-    let size = sight.size;
-    let other_size = sight.other_size;
-    match sight.own() {
+fn write_own_pull(text: &mut String, facts: &PullFacts) -> Result<(), AllocError> {
+    let size = facts.size;
+    let other_size = facts.other_size;
+    match facts.own() {
         OwnPull::TooFew => write!(text, "{other_size} < {size} + 2\n"),
         OwnPull::NoneMayGo => text.push_str("none may go\n"),
         OwnPull::Greatest => write!(

@@ -56,11 +56,11 @@ pub fn tied_with(discipline: DisciplineName, chosen: &Entity, tasks: &[Entity]) 
 fn is_tied(
     discipline: DisciplineName,
     weight: u64,
-    moment: u128,
+    weighted_sum: u128,
     chosen: &Entity,
     task: &Entity,
 ) -> bool
-    ensures { result ≡ is_tied discipline weight moment chosen.now task.now }
+    ensures { result ≡ is_tied discipline weight weighted_sum chosen.now task.now }
 {
     if task.id() == chosen.id() {
         return false;
@@ -68,7 +68,7 @@ fn is_tied(
     match discipline {
         DisciplineName::Cfs => task.v() == chosen.v(),
         DisciplineName::Eevdf => {
-            task.deadline() == chosen.deadline() && task.is_at_most_mean(weight, moment)
+            task.deadline() == chosen.deadline() && task.is_at_most_mean(weight, weighted_sum)
         }
     }
 }

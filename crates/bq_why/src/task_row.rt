@@ -46,8 +46,8 @@ pub fn rows(alloc: Global, tasks: &[Entity]) -> Result<Vec<TaskRow>, AllocError>
 }
 
 /// The row of a task. The tasks have this weight and this sum of weight times v together, and this mean.
-fn row_among(task: &Entity, weight: u64, moment: u128, mean: u64) -> TaskRow
-    ensures { result ≡ row_by weight moment mean task.now }
+fn row_among(task: &Entity, weight: u64, weighted_sum: u128, mean: u64) -> TaskRow
+    ensures { result ≡ row_by weight weighted_sum mean task.now }
 {
     let distance = task.v().abs_diff(mean);
     TaskRow {
@@ -55,7 +55,7 @@ fn row_among(task: &Entity, weight: u64, moment: u128, mean: u64) -> TaskRow
         weight: task.weight(),
         v: task.v(),
         deadline: task.deadline(),
-        is_eligible: task.is_at_most_mean(weight, moment),
+        is_eligible: task.is_at_most_mean(weight, weighted_sum),
         lag: time_of(distance, task.weight()),
     }
 }

@@ -1,6 +1,6 @@
 //! Tasks, virtual times and lags as text.
 ghost use Rattle.std.specs.Prelude.{◌≡◌, ◌^◌, ◌-◌, min, Some};
-ghost use Rattle.bq_why.specs.Words.{lag_text, lag_sign, eligibility, standing_text, origin_name, virtual_text, sign_before};
+ghost use Rattle.bq_why.specs.Words.{lag_text, lag_sign, eligibility, mark_text, origin_name, virtual_text, sign_before};
 
 use crate::task_row::TaskRow;
 use bq_disc::limits::FIRST_MARK;
@@ -78,14 +78,14 @@ fn sign_before(time: u64) -> &'static str
 
 /// The mark of a processor, and the virtual time that its discipline measures its tasks from.
 #[derive(Clone, Copy)]
-pub struct StandingText {
+pub struct MarkText {
     pub discipline: DisciplineName,
     pub mark: u64,
     pub from: u64,
 }
 
-impl fmt::Display for StandingText {
-    ghost output = { λ s. Some (standing_text s) };
+impl fmt::Display for MarkText {
+    ghost output = { λ s. Some (mark_text s) };
 
     fn fmt<W: fmt::Write>(&self, f: &mut fmt::Formatter<W>) -> fmt::Result {
         let mark = VirtualTime(self.mark);

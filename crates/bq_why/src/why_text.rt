@@ -5,8 +5,8 @@ ghost use Rattle.bq_why.specs.Words.{choice_place};
 use crate::asked::Asked;
 use crate::choice_text::{RunChoice, write_choice};
 use crate::event_text::EventText;
-use crate::move_text::{write_place, write_pull, write_sight};
-use crate::pull_sight::{PullSight, sight_of};
+use crate::move_text::{write_place, write_pull, write_pull_facts};
+use crate::pull_facts::{PullFacts, pull_facts_in};
 use crate::texts::TaskText;
 use bq_hooks::{By, Hook};
 use bq_parts::{Event, Reply};
@@ -36,7 +36,7 @@ pub struct WhyForm {
     /// The line on which the last wake began.
     begun_at_line: Option<u64>,
     /// What the next event sees, if the event is a pull.
-    pull_sight: Option<PullSight>,
+    pull_facts: Option<PullFacts>,
 }
 
 /// The processor at which an event may choose, and the event's time. `None` if the event makes no choice.
@@ -76,7 +76,7 @@ impl WhyForm {
             window,
             ran_before: None,
             begun_at_line: None,
-            pull_sight: None,
+            pull_facts: None,
         }
     }
 
@@ -94,12 +94,12 @@ impl WhyForm {
             Some((processor, _)) => running(machine, processor),
             None => None,
         };
-        self.pull_sight = match event {
+        self.pull_facts = match event {
             Event::Pull {
                 processor,
                 from,
                 ..
-            } => sight_of(self.alloc, machine, *processor, *from)?,
+            } => pull_facts_in(self.alloc, machine, *processor, *from)?,
             _ => None,
         };
         Ok(())
@@ -220,10 +220,10 @@ impl WhyForm {
         by: By,
         asked: &Asked,
     ) -> Result<(), AllocError> {
-        match &self.pull_sight {
-            Some(sight) => {
-                write_sight(text, names, sight)?;
-                write_pull(text, names, sight, task, by, asked)
+        match &self.pull_facts {
+            Some(facts) => {
+                write_pull_facts(text, names, facts)?;
+                write_pull(text, names, facts, task, by, asked)
             }
             None => Ok(()),
         }

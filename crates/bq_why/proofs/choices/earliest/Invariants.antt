@@ -8,7 +8,7 @@ use Rattle.bq_why.proofs.choices.earliest.Given as goal
 -- the best is that of the tasks from here on
 abbrev pub invariant-loop-at : goal.invariant-loop-at
 invariant-loop-at l =
-    (l.at ≤ length l.tasks) × (l.best ≡ first_by due_before (filter (is_at_most_mean l.weight l.moment) (drop l.at l.tasks)))
+    (l.at ≤ length l.tasks) × (l.best ≡ first_by due_before (filter (is_at_most_mean l.weight l.weighted_sum) (drop l.at l.tasks)))
 
 abbrev pub decreases-loop-at : goal.decreases-loop-at
 decreases-loop-at l = l.at

@@ -1,6 +1,6 @@
 use Rattle.std.proofs.Common.{drop, length-drop, arith}
 use Rattle.bq_disc.proofs.MovableLemmas.{few_movable}
-use Rattle.bq_why.proofs.pull_sight.movable.Goals as goal
+use Rattle.bq_why.proofs.pull_facts.movable.Goals as goal
 
 pub add-requires-clause-few : goal.add-requires-clause-few
 add-requires-clause-few c =

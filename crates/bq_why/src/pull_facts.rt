@@ -14,7 +14,7 @@ use std::alloc::{AllocError, Global};
 
 /// What a pull sees before the pull happens.
 #[derive(Drop)]
-pub struct PullSight {
+pub struct PullFacts {
     pub puller: u8,
     pub other: u8,
     /// How many tasks run or wait at the puller.
@@ -36,7 +36,7 @@ pub enum OwnPull {
     Greatest,
 }
 
-impl PullSight {
+impl PullFacts {
     /// Why the discipline takes the task that it takes, or none.
     pub fn own(&self) -> OwnPull
         ensures { result ≡ own_pull_of self.now.size self.now.other_size self.now.movable.count }
@@ -52,42 +52,42 @@ impl PullSight {
 }
 
 /// Finds what a pull of one processor from another sees. `None` if the machine lacks one of the two processors.
-pub(crate) fn sight_of(
+pub(crate) fn pull_facts_in(
     alloc: Global,
     machine: &AnyCore,
     puller: u8,
     other: u8,
-) -> Result<Option<PullSight>, AllocError> {
+) -> Result<Option<PullFacts>, AllocError> {
     if puller >= PROCESSORS {
         return Ok(None);
     }
-    let sight = match (machine.seen(puller), machine.seen(other)) {
+    let facts = match (machine.seen(puller), machine.seen(other)) {
         (Some(AnyCpu::Cfs(here)), Some(AnyCpu::Cfs(there))) => {
-            sight(alloc, puller, other, here, there)?
+            pull_facts_between(alloc, puller, other, here, there)?
         }
         (Some(AnyCpu::Eevdf(here)), Some(AnyCpu::Eevdf(there))) => {
-            sight(alloc, puller, other, here, there)?
+            pull_facts_between(alloc, puller, other, here, there)?
         }
         _ => return Ok(None),
     };
-    Ok(Some(sight))
+    Ok(Some(facts))
 }
 
 /// Finds what a pull from one processor to another sees.
-pub fn sight<Q: RunQueue>(
+pub fn pull_facts_between<Q: RunQueue>(
     alloc: Global,
     puller: u8,
     other: u8,
     here: &Cpu<Q>,
     there: &Cpu<Q>,
-) -> Result<PullSight, AllocError>
+) -> Result<PullFacts, AllocError>
     requires { puller < PROCESSORS }
-    ensures { IfOk result (λ sight. Sees puller here.now.running there.now.running sight) }
+    ensures { IfOk result (λ facts. Sees puller here.now.running there.now.running facts) }
 {
     let size = present(alloc, here)?.len();
     let other_size = present(alloc, there)?.len();
     let queue = waiting(alloc, there)?;
-    Ok(PullSight {
+    Ok(PullFacts {
         puller,
         other,
         size,

@@ -1,6 +1,6 @@
 use Rattle.std.proofs.Common.{◌≤◌, drop, length}
 use Rattle.bq_disc.specs.Movable.{AddsMovable}
-use Rattle.bq_why.proofs.pull_sight.movable.Given as goal
+use Rattle.bq_why.proofs.pull_facts.movable.Given as goal
 
 -- the tasks from here on were looked at
 abbrev pub invariant-loop-at : goal.invariant-loop-at
