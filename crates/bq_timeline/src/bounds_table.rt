@@ -43,7 +43,7 @@ impl BoundsTable {
     }
 
     /// Notes the running task of an event's processor before the event.
-    pub fn comes(&mut self, event: &Event, machine: &AnyCore) {
+    pub fn before_event(&mut self, event: &Event, machine: &AnyCore) {
         self.running = match processor_and_time(event) {
             Some((processor, _)) => match machine.seen(processor) {
                 Some(AnyCpu::Cfs(cpu)) => how_it_stands(cpu),
@@ -55,7 +55,7 @@ impl BoundsTable {
     }
 
     /// Measures what an event charged, and what tasks are owed after it.
-    pub fn answered(
+    pub fn after_event(
         &mut self,
         event: &Event,
         reply: &Reply,

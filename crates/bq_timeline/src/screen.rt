@@ -173,21 +173,26 @@ impl Screen {
     }
 
     /// Prepares the form and the table for an event that is about to be done.
-    pub fn comes(&mut self, number: u64, event: &Event, machine: &AnyCore) -> Result<(), AllocError>
+    pub fn before_event(
+        &mut self,
+        number: u64,
+        event: &Event,
+        machine: &AnyCore,
+    ) -> Result<(), AllocError>
         ensures comes { OnOk result (ScreenComes (state_of self.old) (state_of self.new)) }
         ensures text { self.new.text ≡ self.old.text }
     {
         if let Some(Shown::Why(form)) = &mut self.shown {
-            form.comes(number, event, machine)?;
+            form.before_event(number, event, machine)?;
         }
         if let Some(bounds) = &mut self.bounds {
-            bounds.comes(event, machine);
+            bounds.before_event(event, machine);
         }
         Ok(())
     }
 
     /// Shows an event that was done, or notes why it was refused.
-    pub fn answered(
+    pub fn after_event(
         &mut self,
         number: u64,
         event: &Event,
@@ -227,7 +232,7 @@ impl Screen {
         ensures unchanged { self.new ≡ record self.old { bounds = self.new.bounds } }
     {
         match &mut self.bounds {
-            Some(bounds) => bounds.answered(event, reply, machine, change),
+            Some(bounds) => bounds.after_event(event, reply, machine, change),
             None => Ok(()),
         }
     }
@@ -244,7 +249,7 @@ impl Screen {
         ensures unchanged { self.new ≡ record self.old { shown = self.new.shown; text = self.new.text } }
     {
         match &mut self.shown {
-            Some(shown) => shown.answered(done, machine, schedule, &self.names, &mut self.text),
+            Some(shown) => shown.after_event(done, machine, schedule, &self.names, &mut self.text),
             None => Ok(()),
         }
     }

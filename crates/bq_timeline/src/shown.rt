@@ -110,12 +110,12 @@ impl Shown {
             Shown::Json(form) => form.take(done.change, schedule, names, text),
             Shown::Svg(form) => form.take(done.change, schedule, names, text),
             Shown::Perfetto(form) => form.take(done.change, schedule, names, text),
-            Shown::Why(form) => form.answered(done, machine, names, text),
+            Shown::Why(form) => form.after_event(done, machine, names, text),
         }
     }
 
     /// Takes an event that was done: the task that it admits, if it admits one, and then what it changed.
-    pub fn answered(
+    pub fn after_event(
         &mut self,
         done: &Occurrence<'_>,
         machine: &AnyCore,

@@ -85,7 +85,7 @@ impl Viewer {
     ///
     /// A change is large and is built on the stack here, so this is kept out of the path of all else that comes.
     #[inline(never)]
-    fn answered(
+    fn after_event(
         &mut self,
         number: u64,
         event: &Event,
@@ -102,7 +102,7 @@ impl Viewer {
         };
         let change = schedule.add_answer(event, answer);
         self.screen
-            .answered(number, event, answer, machine, &change, schedule)
+            .after_event(number, event, answer, machine, &change, schedule)
     }
 
     /// The trace is over.
@@ -155,13 +155,13 @@ impl Sink for Viewer {
             TraceEvent::Skipped { line } => self.screen.comment(line),
             TraceEvent::Comes { event, machine } => {
                 self.begin()?;
-                self.screen.comes(number, event, machine)
+                self.screen.before_event(number, event, machine)
             }
             TraceEvent::Answered {
                 event,
                 answer,
                 machine,
-            } => self.answered(number, event, answer, machine),
+            } => self.after_event(number, event, answer, machine),
             TraceEvent::NotHex => {
                 self.begin_trouble()?;
                 self.screen.note_bad_hex(number)

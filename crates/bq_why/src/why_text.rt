@@ -81,7 +81,7 @@ impl WhyForm {
     }
 
     /// Notes the processor's state before the event of a line.
-    pub fn comes(
+    pub fn before_event(
         &mut self,
         number: u64,
         event: &Event,
@@ -106,7 +106,7 @@ impl WhyForm {
     }
 
     /// Adds the choices of an event that was done, if the window shows them.
-    pub fn answered(
+    pub fn after_event(
         &self,
         done: &Occurrence<'_>,
         machine: &AnyCore,

@@ -1,8 +1,8 @@
 -- The form is given its task, and then the change.
 use Rattle.std.proofs.lemmas.Result.{on_ok_weaker}
 use Rattle.bq_timeline.proofs.ShownLemmas.{heeds_admit, heeds_other}
-use Rattle.bq_timeline.proofs.shown.Shown.answered.Goals as goal
-use Rattle.bq_timeline.proofs.shown.Shown.answered.Goals.{in-Admit+in_ok-admit, in_default}
+use Rattle.bq_timeline.proofs.shown.Shown.after_event.Goals as goal
+use Rattle.bq_timeline.proofs.shown.Shown.after_event.Goals.{in-Admit+in_ok-admit, in_default}
 
 pub returns : goal.returns
 returns c =
