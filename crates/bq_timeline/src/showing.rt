@@ -106,7 +106,8 @@ impl Showing {
         ensures unchanged { OnOk result (failures_of output.new ≡ failures_of output.old) }
         ensures fault { IfErr result (λ e. IsWriteFault e (failures_of output.old) (failures_of output.new)) }
     {
-        self.position.go_on(self.alloc, piece, &mut self.viewer)?;
+        self.position
+            .run_piece(self.alloc, piece, &mut self.viewer)?;
         let _ = errors.write_all(self.viewer.screen.notes.as_bytes());
         self.viewer.screen.notes.clear();
         output.write_text(self.viewer.screen.text.as_bytes())?;
@@ -121,7 +122,7 @@ impl Showing {
         ensures unchanged { OnOk result (failures_of output.new ≡ failures_of output.old) }
         ensures fault { IfErr result (λ e. IsWriteFault e (failures_of output.old) (failures_of output.new)) }
     {
-        self.position.end(self.alloc, &mut self.viewer)?;
+        self.position.run_last_line(self.alloc, &mut self.viewer)?;
         self.viewer.end()?;
         output.write_text(self.viewer.screen.text.as_bytes())?;
         let notes = self.viewer.screen.notes.clone()?;

@@ -66,7 +66,7 @@ impl Session {
     }
 
     /// Runs the lines that this piece ends, and writes their answers.
-    fn go_on<W: Write>(&mut self, piece: &[u8], out: &mut Counted<W>) -> Result<(), StreamFault>
+    fn run_piece<W: Write>(&mut self, piece: &[u8], out: &mut Counted<W>) -> Result<(), StreamFault>
         ensures ok { OnOk result ((begun : List ℕ) → KeepsLine self.old.begun begun
             → Feeds self.old begun piece.now self.new (W.contents (counted_inner out.old)) (W.contents (counted_inner out.new))) }
         ensures kept { OnOk result (failures_of out.new ≡ failures_of out.old) }
@@ -75,7 +75,8 @@ impl Session {
         ensures fault { IfErr result (λ e. IsWriteFault e (failures_of out.old) (failures_of out.new)) }
     {
         self.answers.clear();
-        self.position.go_on(self.alloc, piece, &mut self.answers)?;
+        self.position
+            .run_piece(self.alloc, piece, &mut self.answers)?;
         out.write_text(self.answers.as_bytes())?;
         Ok(())
     }
@@ -94,12 +95,12 @@ impl Session {
             → BreaksOff self begun piece.now (W.contents (counted_inner out.old)) (W.contents (counted_inner out.new))) }
         ensures fault { IfErr result (λ e. IsWriteFault e (failures_of out.old) (failures_of out.new)) }
     {
-        self.go_on(piece, out)?;
+        self.run_piece(piece, out)?;
         Ok(self)
     }
 
     /// Runs the last line, if no line feed ended it, and writes its answer. Returns true if no line of the trace was bad.
-    fn end<W: Write>(&mut self, out: &mut Counted<W>) -> Result<bool, StreamFault>
+    fn run_last_line<W: Write>(&mut self, out: &mut Counted<W>) -> Result<bool, StreamFault>
         ensures ok { IfOk result (λ clean. (begun : List ℕ) → KeepsLine self.old.begun begun
             → Finishes self.old begun (W.contents (counted_inner out.old)) (W.contents (counted_inner out.new)) clean) }
         ensures kept { OnOk result (failures_of out.new ≡ failures_of out.old) }
@@ -108,7 +109,7 @@ impl Session {
         ensures fault { IfErr result (λ e. IsWriteFault e (failures_of out.old) (failures_of out.new)) }
     {
         self.answers.clear();
-        self.position.end(self.alloc, &mut self.answers)?;
+        self.position.run_last_line(self.alloc, &mut self.answers)?;
         out.write_text(self.answers.as_bytes())?;
         Ok(self.position.progress.clean)
     }
@@ -122,6 +123,6 @@ impl Session {
             → BreaksOff self begun [] (W.contents (counted_inner out.old)) (W.contents (counted_inner out.new))) }
         ensures fault { IfErr result (λ e. IsWriteFault e (failures_of out.old) (failures_of out.new)) }
     {
-        self.end(out)
+        self.run_last_line(out)
     }
 }

@@ -55,7 +55,7 @@ impl TracePosition {
     }
 
     /// The trace goes on with this piece. Reports what the lines that end in it do.
-    pub fn go_on<S: Sink>(
+    pub fn run_piece<S: Sink>(
         &mut self,
         alloc: Global,
         piece: &[u8],
@@ -73,7 +73,7 @@ impl TracePosition {
     }
 
     /// The trace ends here. Reports what the line that has begun does.
-    pub fn end<S: Sink>(&mut self, alloc: Global, sink: &mut S) -> Result<(), AllocError>
+    pub fn run_last_line<S: Sink>(&mut self, alloc: Global, sink: &mut S) -> Result<(), AllocError>
         ensures { OnOk result ((begun : List ℕ) → KeepsLine self.old.begun begun
             → Gets S.takes sink.old sink.new (λ reported. Story self.old.progress (lines begun) reported self.new.progress)) }
     {

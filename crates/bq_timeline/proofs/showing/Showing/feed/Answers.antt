@@ -7,8 +7,8 @@ use Rattle.bq_timeline.proofs.showing.Showing.feed.Goals as goal
 pub returns-clause-reported : goal.returns-clause-reported
 returns-clause-reported g c = λ begun stands.
     record {
-      text = string_bytes c.go_on.new.sink.screen.text;
-      watches = watches_what_it_gets _ _ _ _ (c.in_ok-go_on.ensures begun stands) refl refl refl;
+      text = string_bytes c.run_piece.new.sink.screen.text;
+      watches = watches_what_it_gets _ _ _ _ (c.in_ok-run_piece.ensures begun stands) refl refl refl;
       wrote =
           subst (Appends (g.W.Write.contents (counted_inner c.args.output.now)) (g.W.Write.contents (counted_inner c.write_text.new.self)))
           c.as_bytes-2.ensures.value c.in_ok-write_text.ensures.whole;

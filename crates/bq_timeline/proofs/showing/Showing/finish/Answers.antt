@@ -16,27 +16,27 @@ use Rattle.bq_timeline.proofs.showing.Showing.finish.Goals as goal
 pub returns-clause-reported : goal.returns-clause-reported
 returns-clause-reported g c = λ begun stands.
     let old = c.args.self.now in
-    let new = c.end.new.sink in
-    let w : Watches old.viewer new (string_bytes new.screen.text) (λ reported. Story old.position.progress (lines begun) reported c.end.new.self.progress) =
-    watches_what_it_gets old.viewer new new (λ reported. Story old.position.progress (lines begun) reported c.end.new.self.progress)
-    (c.in_ok-end.ensures begun stands) refl refl refl in
-    let ends = c.in_ok-end-2.ensures.notes in
+    let new = c.run_last_line.new.sink in
+    let w : Watches old.viewer new (string_bytes new.screen.text) (λ reported. Story old.position.progress (lines begun) reported c.run_last_line.new.self.progress) =
+    watches_what_it_gets old.viewer new new (λ reported. Story old.position.progress (lines begun) reported c.run_last_line.new.self.progress)
+    (c.in_ok-run_last_line.ensures begun stands) refl refl refl in
+    let ends = c.in_ok-end.ensures.notes in
     let before = string_bytes ends.begun.notes ++ absent_notes new.schedule ends.begun.tasks.items ends.begun.part in
     record {
       reported = w.reported;
-      final = c.end.new.self.progress;
+      final = c.run_last_line.new.self.progress;
       story = w.holds;
-      clean = ap (λ k. k == 0) (c.end-2.ensures.troubles ∙ w.troubles);
+      clean = ap (λ k. k == 0) (c.end.ensures.troubles ∙ w.troubles);
       before = before;
       notes = c.in_ok-notes.ensures.cases ∙ ends.notes ∙ ap (λ (s : Option Figures). before ++ last_notes s new.troubles) w.schedule
           ∙ ap (λ (k : ℕ). before ++ last_notes (schedule_after old.viewer.schedule w.reported) k) w.troubles;
       last = state_of new.screen;
       taken = string_bytes new.screen.text;
-      text = string_bytes c.end-2.new.self.screen.text;
+      text = string_bytes c.end.new.self.screen.text;
       takes = w.shows;
       closes =
-          subst (λ (s : Option Figures). TextCloses s (state_of new.screen) (string_bytes new.screen.text) (string_bytes c.end-2.new.self.screen.text)) w.schedule
-          c.in_ok-end-2.ensures.text;
+          subst (λ (s : Option Figures). TextCloses s (state_of new.screen) (string_bytes new.screen.text) (string_bytes c.end.new.self.screen.text)) w.schedule
+          c.in_ok-end.ensures.text;
       wrote =
           subst (Appends (g.W.Write.contents (counted_inner c.args.output.now)) (g.W.Write.contents (counted_inner c.write_text.new.self)))
           c.as_bytes.ensures.value c.in_ok-write_text.ensures.whole;

@@ -1,5 +1,5 @@
 use Rattle.bq_trace.proofs.StandingLemmas.{SoFar-none, SoFar-more}
-use Rattle.bq_trace.proofs.trace_position.TracePosition.go_on.Goals as goal
+use Rattle.bq_trace.proofs.trace_position.TracePosition.run_piece.Goals as goal
 
 pub loop-tail-init : goal.loop-tail-init
 loop-tail-init g c = λ begun h. SoFar-none g.S.Sink.takes c.args.self.now begun c.args.piece.now c.args.sink.now h

@@ -1,7 +1,7 @@
 use Rattle.std.proofs.Common.{ℕ, List, ◌++◌, length}
 use Rattle.bq_lines.specs.Kept.{KeepsLine}
 use Rattle.bq_trace.proofs.StandingLemmas.{SoFar}
-use Rattle.bq_trace.proofs.trace_position.TracePosition.go_on.Given as goal
+use Rattle.bq_trace.proofs.trace_position.TracePosition.run_piece.Given as goal
 
 -- the lines that have ended are reported
 abbrev pub invariant-loop-tail : goal.invariant-loop-tail

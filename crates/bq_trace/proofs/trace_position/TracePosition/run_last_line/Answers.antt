@@ -3,7 +3,7 @@ use Rattle.std.proofs.lemmas.Result.{on_ok_weaker}
 use Rattle.bq_trace.specs.TraceEvents.{Gets}
 use Rattle.bq_trace.specs.Reporting.{ReportsShortLine}
 use Rattle.bq_trace.proofs.StandingLemmas.{ends_with}
-use Rattle.bq_trace.proofs.trace_position.TracePosition.end.Goals as goal
+use Rattle.bq_trace.proofs.trace_position.TracePosition.run_last_line.Goals as goal
 
 pub returns : goal.returns
 returns g c =
