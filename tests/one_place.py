@@ -4,15 +4,23 @@
     tests/one_place.py        exit status 0: none but those that ALLOWED names with a reason
 
 Six things are looked for: a known fact outside its home (FACTS: a pattern, and the file that may have it); the same function
-twice, by its text without its name; the same definition twice in specs, by its right side; the same lemma twice in proofs of two
-crates; the same long text twice; and, in trials and tests too, a lemma outside the files that may name it (SHUT).
+twice, by its text without its name; the same definition twice in specs, by its right side; the same lemma twice in proofs, in one
+crate or two, by its statement, whatever its variables are called (checks/statements.py); the same long text twice; and, in trials
+and tests too, a lemma outside the files that may name it (SHUT).
 """
 import re
 import sys
 from collections import defaultdict
 from pathlib import Path
 
+sys.dont_write_bytecode = True
+
+from checks import statements
+
 TOP = Path(__file__).resolve().parent.parent / 'crates'
+
+# From how many characters on a statement may have one lemma only. A shorter one may have two if neither has LINES lines.
+STATEMENT, LINES = 60, 4
 
 # What each fact looks like, and the only files that may say it.
 FACTS = [
@@ -117,6 +125,7 @@ SHUT = [
 # What may stand in two places, and why.
 ALLOWED = {
     'the same lemma: bq_comparison/proofs/RangeLemmas.antt: flat_map-range_more, bq_policy_run/proofs/ChangeLemmas.antt: flat_map-range_more': 'a fact of the library\'s ranges, which it has no lemma for; neither crate stands on the other',
+    'the same lemma: bq_insn/proofs/EncodeLemmas.antt: on_err, bq_report/proofs/NameLemmas.antt: where_err, bq_streams/proofs/ResultLemmas.antt: OnErr-anyhow': 'a fact of the library\'s results, which it has no lemma for; no crate below all three could have it',
     'how many slots or bytes a program has at most, in words: bq_asm_faults/src/number_reason.rt': 'the least offset and distance of 16 bits, -32768',
     'how many slots a program has at most: bq_object/src/line_table.rt': 'the crate reads objects and stands on no crate of instructions, so its own bound on lines says the number once more',
     'the weight of nice value 0: bq_object/src/line_table.rt': 'the line of a line record is its number divided by 1024, which only happens to be that weight',
@@ -167,18 +176,15 @@ def functions(files):
 
 
 def lemmas(files):
-    """Lemmas of at least four lines, by statement and proof without the name."""
+    """The lemmas of one statement, if it is long enough to mean something, or one of them is."""
     seen = defaultdict(list)
     for name, text in files:
-        if not name.endswith('Lemmas.antt'):
-            continue
-        for found in re.finditer(r'(?m)^( *)(?:abbrev )?(?:pub )?([^\s:]+) :(.*?)(?=^\1(?! )(?!\2 |unfolding )\S|^$|\Z)', text, re.S):
-            body = re.sub(r'\s+', ' ', re.sub(r'--.*', '', found[3]).replace(found[2], '_'))
-            if len(found[3].splitlines()) >= 4:
-                seen[body].append(f'{name}: {found[2]}')
-    for places in seen.values():
-        if len({it.split('/')[0] for it in places}) > 1:
-            yield 'the same lemma: ' + ', '.join(places)
+        for lemma in statements.lemmas(name, text):
+            if lemma.statement:
+                seen[lemma.statement].append((name, lemma))
+    for statement, found in seen.items():
+        if len(found) > 1 and (statements.length(statement) >= STATEMENT or max(it.length for _, it in found) >= LINES):
+            yield 'the same lemma: ' + ', '.join(f'{name}: {it.name}' for name, it in found)
 
 
 def definitions(files):
