@@ -1,6 +1,6 @@
 //! What may happen in the world.
-ghost use Rattle.std.specs.Prelude.{◌≡◌, None};
-ghost use Rattle.bq_parts.specs.Events.{with_policy};
+ghost use Rattle.std.specs.Prelude.{◌≡◌};
+ghost use Rattle.bq_parts.specs.Events.{with_policy, without_policy};
 
 use bq_hooks::Hook;
 use bq_installed::Policy;
@@ -87,7 +87,7 @@ impl Event {
     /// Copies the event without the policy that it brings. The copy can be reported after the event itself is done.
     #[inline(always)]
     pub fn without_policy(&self) -> Event
-        ensures { result ≡ with_policy self.now None }
+        ensures { result ≡ without_policy self.now }
     {
         match *self {
             Event::Admit {
