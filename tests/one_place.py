@@ -79,7 +79,7 @@ FACTS = [
     ('how long a name may be and how many tasks there are, in words', r'more than 1024', set()),
     ('which numbers processors and counters have, in words', r'\b0 to 63\b', {'bq_disc/src/limits.rt', 'bq_bpf/src/board.rt'}),
     ('how many slots or bytes a program has at most, in words', r'"[^"\n]*\b(?:4096|32768)\b', {'bq_bpf/src/slots.rt'}),
-    ('what the words of a line are to be', r'0 to 255\b|-128 to 127\b|0 to 2\^64 - 1', {'bq_why/src/line_operand.rt'}),
+    ('what the words of a line are to be', r'0 to 255\b|-128 to 127\b|0 to 2\^64 - 1', {'bq_lines/src/line_operand.rt'}),
     ('which numbers a word may write for a task, in words', r'0 to 65535\b', {'bq_words/src/quantities.rt'}),
     ('how a trace begins, by an example', r'machine (?:cfs|eevdf) \d', {'bq_lines/src/keyword.rt'}),
     ('what numbers of 32 bits are below, in words', r'4294967296', {'bq_words/src/numbers.rt'}),

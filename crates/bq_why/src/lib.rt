@@ -1,5 +1,5 @@
 //! Why a task runs: the tasks of a processor as a choice saw them, and the discipline's reason for the running one. The form `why`
-//! puts this into words. Also why a line of a trace is bad.
+//! puts this into words.
 //! Promises that a task which the form calls eligible is eligible by the definition, that the choice, the mean, the task passed
 //! over, and a pull's sizes and tasks are the definition's, and that the form names a policy exactly when the answer does.
 //! Builds on the definitions of the two disciplines, on a trace's machine, and on the words of bq_report.
@@ -11,8 +11,6 @@ mod choice_text;
 pub mod choices;
 pub mod event_text;
 pub mod laws;
-pub mod line_fault;
-pub mod line_operand;
 mod move_text;
 pub mod presence;
 pub mod pull_facts;

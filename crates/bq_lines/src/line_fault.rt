@@ -1,9 +1,9 @@
 //! Why a line is bad.
 
+use crate::bytes::is_allowed_line;
+use crate::keyword::Keyword;
 use crate::line_operand::{LineOperand, operands_of};
-use bq_lines::Keyword;
-use bq_lines::bytes::is_allowed_line;
-use bq_lines::lines::LONGEST;
+use crate::lines::LONGEST;
 use bq_words::{Near, next_word};
 use std::alloc::{AllocError, Global};
 use std::{fmt, str};

@@ -3,11 +3,11 @@ ghost use Rattle.std.specs.Prelude.{◌≡◌, ◌&&◌, length, nat_lt};
 ghost use Rattle.std.specs.Char.{is_ascii_digit};
 ghost use Rattle.std.specs.List.{list_all};
 
+use crate::keyword::Keyword;
 use bq_bpf::board::COUNTERS;
 use bq_bpf::with_counters;
 use bq_hooks::hook::NO_HOOK;
 use bq_hooks::{Hook, with_hooks};
-use bq_lines::Keyword;
 use bq_words::numbers::hex_digits;
 use bq_words::{DisciplineName, quantities, with_disciplines, with_tasks};
 use std::fmt;
