@@ -2,7 +2,7 @@
 ghost use Rattle.std.specs.Prelude.{◌≡◌, ◌∷◌, ◌++◌, ◌<◌, ◌≤◌, ◌+◌, [], true, None, Ok, IfOk, IfErr, OnErr, All, vec_len, vec_capacity};
 ghost use Rattle.std.specs.Option.{option_map};
 ghost use Rattle.bq_history.specs.Callers.{with_receipt, with_receipts};
-ghost use Rattle.bq_shared.specs.Calls.{IsTallied};
+ghost use Rattle.bq_shared.specs.Calls.{AccountMatchesReceipts};
 ghost use Rattle.bq_parts.specs.Refusals.{is_for};
 ghost use Rattle.bq_parts.specs.declared.reply.Reply.TheVariants.{Drawn};
 ghost use Rattle.bq_shared.specs.Parts.{reported_calls};
@@ -152,9 +152,9 @@ impl<Q: RunQueue + Drop, K: Clock + Drop, N: Naming + Counting, const P: usize> 
         room: &mut Room<Record>,
     ) -> (Receipt<Record>, u64)
         requires ready { room.old ≡ true }
-        requires tally { IsTallied reported_calls working.old }
+        requires account { AccountMatchesReceipts reported_calls working.old }
         ensures caller { working.new.caller ≡ with_receipt result.0 working.old.caller }
-        ensures tally { IsTallied reported_calls working.new }
+        ensures account { AccountMatchesReceipts reported_calls working.new }
         ensures event { result.0.entry.event ≡ Event.Draw }
         ensures reply { result.0.entry.reply ≡ Ok (Drawn result.1) }
     {
@@ -178,14 +178,14 @@ impl<Q: RunQueue + Drop, K: Clock + Drop, N: Naming + Counting, const P: usize> 
         mut spares: Vec<PreparedInstall>,
         installs: &mut Vec<Receipt<Record>>,
     )
-        requires tally { IsTallied reported_calls working.old }
+        requires account { AccountMatchesReceipts reported_calls working.old }
         requires hook { is_for loading.hook loading.policy.now ≡ true }
         requires many { vec_len spares ≡ P }
         requires same { All (λ s. s.installed.policy ≡ loading.policy.now) spares.items }
         requires none { installs.old.items ≡ [] }
         requires room { P ≤ vec_capacity installs.old }
         ensures caller { working.new.caller ≡ with_receipts installs.new.items working.old.caller }
-        ensures tally { IsTallied reported_calls working.new }
+        ensures account { AccountMatchesReceipts reported_calls working.new }
         ensures installs { AreInstalls 0 P loading.entry.hook loading.entry.generation loading.entry.policy.now installs.new.items }
     {
         'installs: for number in 0..self.cpus.len() {
@@ -214,11 +214,11 @@ impl<Q: RunQueue + Drop, K: Clock + Drop, N: Naming + Counting, const P: usize> 
         generation: u64,
         spare: PreparedInstall,
     ) -> Receipt<Record>
-        requires tally { IsTallied reported_calls working.old }
+        requires account { AccountMatchesReceipts reported_calls working.old }
         requires inside { processor < P }
         requires hook { is_for hook spare.installed.policy ≡ true }
         ensures caller { working.new.caller ≡ with_receipt result working.old.caller }
-        ensures tally { IsTallied reported_calls working.new }
+        ensures account { AccountMatchesReceipts reported_calls working.new }
         ensures event { result.entry.event ≡ Event.Install processor hook generation spare.installed.policy }
     {
         let PreparedInstall {

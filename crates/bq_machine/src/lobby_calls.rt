@@ -3,7 +3,7 @@ ghost use Rattle.std.specs.Prelude.{◌≡◌, ◌≤◌, None, IfOk, IfErr, OnE
 ghost use Rattle.bq_history.specs.Callers.{with_receipt};
 ghost use Rattle.bq_parts.specs.Refusals.{argument_refusal};
 ghost use Rattle.bq_parts.specs.Moves.{admitted};
-ghost use Rattle.bq_shared.specs.Calls.{IsTallied};
+ghost use Rattle.bq_shared.specs.Calls.{AccountMatchesReceipts};
 ghost use Rattle.bq_shared.specs.Parts.{reported_calls};
 ghost use Rattle.bq_machine.specs.Calls.{IsCallRefused};
 
@@ -115,9 +115,9 @@ impl<Q: RunQueue + Drop, K: Clock + Drop, N: Naming + Counting, const P: usize> 
         requires passed { argument_refusal P (Event.Admit admission.task admission.nice admission.mask admission.slice) ≡ None }
         requires new { new ≡ admitted P admission.task admission.nice admission.mask admission.slice }
         requires ready { room.old ≡ true }
-        requires tally { IsTallied reported_calls working.old }
+        requires account { AccountMatchesReceipts reported_calls working.old }
         ensures caller { working.new.caller ≡ with_receipt result working.old.caller }
-        ensures tally { IsTallied reported_calls working.new }
+        ensures account { AccountMatchesReceipts reported_calls working.new }
         ensures event { result.entry.event ≡ Event.Admit admission.task admission.nice admission.mask admission.slice }
     {
         let mut guard = self.lobby.lock(rt);
@@ -168,9 +168,9 @@ impl<Q: RunQueue + Drop, K: Clock + Drop, N: Naming + Counting, const P: usize> 
     ) -> Receipt<Record>
         requires passed { argument_refusal P (Event.Retire task) ≡ None }
         requires ready { room.old ≡ true }
-        requires tally { IsTallied reported_calls working.old }
+        requires account { AccountMatchesReceipts reported_calls working.old }
         ensures caller { working.new.caller ≡ with_receipt result working.old.caller }
-        ensures tally { IsTallied reported_calls working.new }
+        ensures account { AccountMatchesReceipts reported_calls working.new }
         ensures event { result.entry.event ≡ Event.Retire task }
     {
         let mut guard = self.lobby.lock(rt);

@@ -3,7 +3,7 @@ ghost use Rattle.std.specs.Prelude.{◌≡◌, ◌≢◌, ◌<◌, ℕ, None, So
 ghost use Rattle.std.specs.Sync.Mutex.{mutex_guard_value};
 ghost use Rattle.bq_history.specs.Callers.{with_receipt};
 ghost use Rattle.bq_parts.specs.Refusals.{argument_refusal};
-ghost use Rattle.bq_shared.specs.Calls.{IsTallied};
+ghost use Rattle.bq_shared.specs.Calls.{AccountMatchesReceipts};
 ghost use Rattle.bq_shared.specs.Parts.{reported_calls};
 ghost use Rattle.bq_machine.specs.Calls.{IsCallRefused};
 
@@ -68,9 +68,9 @@ impl<Q: RunQueue + Drop, K: Clock + Drop, N: Naming + Counting, const P: usize> 
         requires apart { processor ≢ from }
         requires ready { room.old ≡ true }
         requires calls { is_some calls.old ≡ true }
-        requires tally { IsTallied reported_calls working.old }
+        requires account { AccountMatchesReceipts reported_calls working.old }
         ensures caller { working.new.caller ≡ with_receipt result working.old.caller }
-        ensures tally { IsTallied reported_calls working.new }
+        ensures account { AccountMatchesReceipts reported_calls working.new }
         ensures event { (now : ℕ) × K.gives processor now × (result.entry.event ≡ Event.Pull processor from now) }
     {
         // The clock is read before any lock, since both locks may be waited for. A reading below the processor's last counts

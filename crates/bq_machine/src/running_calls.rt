@@ -1,7 +1,7 @@
 //! The calls at one processor: its clock ticks, the tasks of its inbox enter its queue, and its running task goes to sleep.
 ghost use Rattle.std.specs.Prelude.{◌≡◌, ◌<◌, ℕ, IfOk, IfErr, OnErr, is_some, true};
 ghost use Rattle.bq_history.specs.Callers.{with_receipt};
-ghost use Rattle.bq_shared.specs.Calls.{IsTallied};
+ghost use Rattle.bq_shared.specs.Calls.{AccountMatchesReceipts};
 ghost use Rattle.bq_shared.specs.Parts.{reported_calls};
 ghost use Rattle.bq_machine.specs.Calls.{IsCallRefused};
 
@@ -67,9 +67,9 @@ impl<Q: RunQueue + Drop, K: Clock + Drop, N: Naming + Counting, const P: usize> 
         requires inside { processor < P }
         requires ready { room.old ≡ true }
         requires calls { is_some calls.old ≡ true }
-        requires tally { IsTallied reported_calls working.old }
+        requires account { AccountMatchesReceipts reported_calls working.old }
         ensures caller { working.new.caller ≡ with_receipt result working.old.caller }
-        ensures tally { IsTallied reported_calls working.new }
+        ensures account { AccountMatchesReceipts reported_calls working.new }
         ensures event { (now : ℕ) × K.gives processor now × (result.entry.event ≡ Event.Tick processor now) }
     {
         let mut guard = self.lock_processor(rt, processor);
@@ -132,9 +132,9 @@ impl<Q: RunQueue + Drop, K: Clock + Drop, N: Naming + Counting, const P: usize> 
         requires inside { processor < P }
         requires ready { room.old ≡ true }
         requires calls { is_some calls.old ≡ true }
-        requires tally { IsTallied reported_calls working.old }
+        requires account { AccountMatchesReceipts reported_calls working.old }
         ensures caller { working.new.caller ≡ with_receipt result working.old.caller }
-        ensures tally { IsTallied reported_calls working.new }
+        ensures account { AccountMatchesReceipts reported_calls working.new }
         ensures event { (now : ℕ) × K.gives processor now × (result.entry.event ≡ Event.Drain processor now) }
     {
         let mut guard = self.lock_processor(rt, processor);
@@ -198,9 +198,9 @@ impl<Q: RunQueue + Drop, K: Clock + Drop, N: Naming + Counting, const P: usize> 
     ) -> Receipt<Record>
         requires inside { processor < P }
         requires ready { room.old ≡ true }
-        requires tally { IsTallied reported_calls working.old }
+        requires account { AccountMatchesReceipts reported_calls working.old }
         ensures caller { working.new.caller ≡ with_receipt result working.old.caller }
-        ensures tally { IsTallied reported_calls working.new }
+        ensures account { AccountMatchesReceipts reported_calls working.new }
         ensures event { (now : ℕ) × K.gives processor now × (result.entry.event ≡ Event.Block processor now) }
     {
         let mut guard = self.lock_processor(rt, processor);

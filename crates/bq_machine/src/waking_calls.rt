@@ -4,7 +4,7 @@ ghost use Rattle.std.specs.Option.{option_to_list, option_map};
 ghost use Rattle.bq_history.specs.Callers.{receipts_of, with_receipt, with_receipts};
 ghost use Rattle.bq_history.specs.Items.{part_item};
 ghost use Rattle.bq_hooks.specs.OwnPlace.{HasPlace};
-ghost use Rattle.bq_shared.specs.Calls.{ahead, IsTallied};
+ghost use Rattle.bq_shared.specs.Calls.{ahead, AccountMatchesReceipts};
 ghost use Rattle.bq_parts.specs.Choices.{by_programs};
 ghost use Rattle.bq_parts.specs.Refusals.{argument_refusal};
 ghost use Rattle.bq_parts.specs.Shares.{Places};
@@ -117,9 +117,9 @@ impl<Q: RunQueue + Drop, K: Clock + Drop, N: Naming + Counting, const P: usize> 
         requires inside { (processor < P) × (task < TASKS) }
         requires ready { (begin_rooms.record.now ≡ true) × (end_rooms.record.now ≡ true) }
         requires calls { is_some end_rooms.calls.now ≡ true }
-        requires tally { IsTallied reported_calls working.old }
+        requires account { AccountMatchesReceipts reported_calls working.old }
         ensures caller { working.new.caller ≡ with_receipts (option_to_list result.end) (with_receipt result.begin working.old.caller) }
-        ensures tally { IsTallied reported_calls working.new }
+        ensures account { AccountMatchesReceipts reported_calls working.new }
         ensures wake { IsWake (K.gives processor) processor task result }
     {
         let mut guard = self.lock_processor(rt, processor);
@@ -147,11 +147,11 @@ impl<Q: RunQueue + Drop, K: Clock + Drop, N: Naming + Counting, const P: usize> 
     ) -> Receipt<Record>
         requires below { task < TASKS }
         requires ready { rooms.record.now ≡ true }
-        requires tally { IsTallied reported_calls working.old }
+        requires account { AccountMatchesReceipts reported_calls working.old }
         requires held { cpu.old.holder ≡ part_item (cpu_part cpu.old.content.number cpu.old.content.state) ∷ [] }
         requires rests { cpu.old.content.state.hand ≡ None }
         ensures caller { working.new.caller ≡ with_receipt result working.old.caller }
-        ensures tally { IsTallied reported_calls working.new }
+        ensures account { AccountMatchesReceipts reported_calls working.new }
         ensures event { result.entry.event ≡ Event.BeginWake cpu.old.content.number task }
         ensures held { cpu.new.holder ≡ part_item (cpu_part cpu.new.content.number cpu.new.content.state) ∷ [] }
         ensures number { cpu.new.content.number ≡ cpu.old.content.number }
@@ -190,11 +190,11 @@ impl<Q: RunQueue + Drop, K: Clock + Drop, N: Naming + Counting, const P: usize> 
     ) -> Receipt<Record>
         requires calls { is_some rooms.calls.now ≡ true }
         requires ready { rooms.record.now ≡ true }
-        requires tally { IsTallied reported_calls working.old }
+        requires account { AccountMatchesReceipts reported_calls working.old }
         requires held { cpu.old.holder ≡ part_item (cpu_part cpu.old.content.number cpu.old.content.state) ∷ [] }
         requires hand { option_map (λ c. c.task.id) cpu.old.content.state.hand ≡ Some task }
         ensures caller { working.new.caller ≡ with_receipt result working.old.caller }
-        ensures tally { IsTallied reported_calls working.new }
+        ensures account { AccountMatchesReceipts reported_calls working.new }
         ensures event { result.entry.event ≡ Event.EndWake cpu.old.content.number now }
         ensures placed { WasPlaced task result.entry.reply }
         ensures held { cpu.new.holder ≡ part_item (cpu_part cpu.new.content.number cpu.new.content.state) ∷ [] }
@@ -238,12 +238,12 @@ impl<Q: RunQueue + Drop, K: Clock + Drop, N: Naming + Counting, const P: usize> 
         requires few { P ≤ PROCESSORS }
         requires hand { is_some content.old.state.hand ≡ true }
         requires usable { IfSome content.old.state.hand (λ c. HasPlace P c.task) }
-        requires tally { IsTallied reported_calls working.old }
+        requires account { AccountMatchesReceipts reported_calls working.old }
         ensures number { content.new.number ≡ content.old.number }
         ensures share { Places (by_programs Q.R.discipline) P content.old.number now content.old.state content.new.scratch (Some result) content.new.state }
         ensures below { result.to < P }
         ensures caller { working.new.caller ≡ working.old.caller }
-        ensures tally { working.new.tally ≡ ahead reported_calls (receipts_of working.new.caller) content.new.scratch }
+        ensures account { working.new.account ≡ ahead reported_calls (receipts_of working.new.caller) content.new.scratch }
     {
         content.scratch.clear();
         let mut counter_board = working.open_board(counters);

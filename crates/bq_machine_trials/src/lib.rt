@@ -5,6 +5,8 @@
 #![tactic(auto)]
 
 #[cfg(test)]
+mod account_tests;
+#[cfg(test)]
 mod asserting;
 #[cfg(test)]
 mod counter_tests;
@@ -38,5 +40,3 @@ mod replayed;
 mod requests;
 #[cfg(test)]
 mod script;
-#[cfg(test)]
-mod tally_tests;

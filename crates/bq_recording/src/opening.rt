@@ -4,7 +4,7 @@ ghost use Rattle.bq_disc.specs.declared.limits.TheConstants.{PROCESSORS};
 ghost use Rattle.bq_history.specs.Tables.{table_of, start_of};
 ghost use Rattle.bq_history.specs.Items.{callers_from, part_item};
 ghost use Rattle.bq_shared.specs.Calls.{fresh_callers};
-ghost use Rattle.bq_shared.specs.Sums.{opened};
+ghost use Rattle.bq_shared.specs.Sums.{fresh_account};
 ghost use Rattle.bq_shared.specs.Parts.{first_parts};
 ghost use Rattle.bq_shared.specs.Prepared.{ArePrepared};
 ghost use Rattle.bq_recording.specs.Queues.{AreFresh};
@@ -16,8 +16,8 @@ use bq_disc::RunQueue;
 use bq_history::{Holder, Item, Journal, Naming};
 use bq_hooks::Loads;
 use bq_shared::{
-    CounterTally, Counting, JournalState, NumberedCpu, NumberedInbox, OneLobby, Record, UnderLock,
-    UnnamedCounters, WorldPart, seats,
+    CounterAccount, Counting, JournalState, NumberedCpu, NumberedInbox, OneLobby, Record,
+    UnderLock, UnnamedCounters, WorldPart, seats,
 };
 use std::alloc::{AllocError, Global};
 use std::sync::Mutex;
@@ -95,7 +95,7 @@ fn recorder_at_start<Q: RunQueue + Drop, N: Naming + Counting>(
 ) -> (
     Recorder<Q, N>,
     Holder<Item<Record, WorldPart, JournalState>, N>,
-    CounterTally<N>,
+    CounterAccount<N>,
 )
     requires few { count ≤ PROCESSORS }
     requires name { table_of prepared ≡ N.table }
@@ -103,7 +103,7 @@ fn recorder_at_start<Q: RunQueue + Drop, N: Naming + Counting>(
     requires counts { ((start_of prepared).setup ≡ count) × (start_of unnamed ≡ (start_of prepared).callers) }
     ensures history { result.0.history ≡ start_of prepared }
     ensures items { result.1 ≡ map part_item (first_parts count) ++ callers_from 0 (start_of prepared).callers }
-    ensures account { result.2 ≡ opened (start_of unnamed) }
+    ensures account { result.2 ≡ fresh_account (start_of unnamed) }
 {
     let (history, mut all) = prepared.named::<N>();
     let (counters, account) = unnamed.named::<N>();

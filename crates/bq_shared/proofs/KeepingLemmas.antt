@@ -11,7 +11,7 @@ use Rattle.bq_bpf.specs.Counters.{counter_added, sum_of}
 use Rattle.bq_history.specs.Whole.{total}
 use Rattle.bq_history.proofs.MoveLemmas.{total_set, total_snoc, total_at}
 use Rattle.bq_shared.specs.declared.account.Account.{Account}
-use Rattle.bq_shared.specs.Sums.{AreSums, AreSumsOf, spent, opened, account_called, joined_accounts, without_one}
+use Rattle.bq_shared.specs.Sums.{AreSums, AreSumsOf, seatless_account, fresh_account, account_called, joined_accounts, without_one}
 
 -- the sum over two lists of calls joined
 pub sum-append : (i : ℕ) (v w : List CounterCall) → sum_of i (v ++ w) ≡ sum_of i v + sum_of i w
@@ -96,11 +96,11 @@ sums_after_read seats words accounts id i v rule at low some_seat fits =
     (λ j same. let h = sum-append j v.calls (Read i (slice_index words i) ∷ []) in omega (arith, h))
     (λ j other. let h = sum-append j v.calls (Read i (slice_index words i) ∷ []) in omega (arith, h))
 
--- a look at a word, which no account gets, keeps the sums
-pub sums_after_look : (seats : ℕ) (words : List ℕ) (accounts : List Account) (id i : ℕ) (v : Account)
+-- a read of a word, which no account gets, keeps the sums
+pub sums_after_unrecorded_read : (seats : ℕ) (words : List ℕ) (accounts : List Account) (id i : ℕ) (v : Account)
     → AreSums seats words accounts → get_elem? accounts id ≡ some v → i < 64 → slice_index words i < 2 ^ 64
     → AreSums seats (slice_set words i (slice_index words i)) (slice_set accounts id v)
-sums_after_look seats words accounts id i v rule at low fits =
+sums_after_unrecorded_read seats words accounts id i v rule at low fits =
     steps seats words accounts id v v i 0 (slice_index words i) rule at low (omega arith) refl (rule.blank id v at)
     (λ j same. omega arith) (λ j other. refl)
 
@@ -134,28 +134,28 @@ module _ (seats : ℕ) (words : List ℕ) (accounts : List Account) (id : ℕ) (
   }
 
   -- so does one seat that leaves an account without calls and gets its own
-  pub parts : 1 ≤ v.seats → v.calls ≡ [] → AreSums seats words (slice_set accounts id (without_one v) ++ opened 1 ∷ [])
-  parts some_seat none = cuts (without_one v) (opened 1) (omega arith) (λ i. omega arith) (λ z. none) (λ z. refl)
+  pub parts : 1 ≤ v.seats → v.calls ≡ [] → AreSums seats words (slice_set accounts id (without_one v) ++ fresh_account 1 ∷ [])
+  parts some_seat none = cuts (without_one v) (fresh_account 1) (omega arith) (λ i. omega arith) (λ z. none) (λ z. refl)
 
   -- so does an account that goes to another seat of the table
-  pub takes : AreSums seats words (slice_set accounts id spent ++ v ∷ [])
-  takes = cuts spent v (omega arith) (λ i. omega arith) (λ z. refl) (rule.blank id v at)
+  pub takes : AreSums seats words (slice_set accounts id seatless_account ++ v ∷ [])
+  takes = cuts seatless_account v (omega arith) (λ i. omega arith) (λ z. refl) (rule.blank id v at)
 
   -- so do two accounts that become one
   pub joins : (other : ℕ) (w : Account) → ¬ (other ≡ id)
       → get_elem? (slice_set accounts id (joined_accounts v w)) other ≡ some w
-      → AreSums seats words (slice_set (slice_set accounts id (joined_accounts v w)) other spent)
+      → AreSums seats words (slice_set (slice_set accounts id (joined_accounts v w)) other seatless_account)
   joins other w apart there =
       let theirs : get_elem? accounts other ≡ some w = sym (set_else accounts id other (joined_accounts v w) apart) ∙ there in
       record {
         many = rule.many;
         whole =
             let a = total_set seats_of accounts id v (joined_accounts v w) at in
-            let b = total_set seats_of (set accounts id (joined_accounts v w)) other w spent there in
+            let b = total_set seats_of (set accounts id (joined_accounts v w)) other w seatless_account there in
             let e = rule.whole in
             omega (arith, a, b, e);
         blank = λ by a e zero_seats.
-            ⊎_elim (λ (y : (by ≡ other) × (spent ≡ a)). subst (λ (u : Account). u.calls ≡ []) y.1 refl)
+            ⊎_elim (λ (y : (by ≡ other) × (seatless_account ≡ a)). subst (λ (u : Account). u.calls ≡ []) y.1 refl)
             (λ (y : (by ≢ other) × (get_elem? (set accounts id (joined_accounts v w)) by ≡ some a)).
             ⊎_elim (λ (z : (by ≡ id) × (joined_accounts v w ≡ a)).
             let none : v.seats + w.seats ≡ 0 = ap seats_of z.1 ∙ zero_seats in
@@ -163,29 +163,29 @@ module _ (seats : ℕ) (words : List ℕ) (accounts : List Account) (id : ℕ) (
             (rw (rule.blank id v at (omega (arith, none)), rule.blank other w theirs (omega (arith, none))) refl))
             (λ (z : (by ≢ id) × (get_elem? accounts by ≡ some a)). rule.blank by a z.1 zero_seats)
             (at_set accounts id by (joined_accounts v w) a y.1))
-            (at_set (set accounts id (joined_accounts v w)) other by spent a e);
+            (at_set (set accounts id (joined_accounts v w)) other by seatless_account a e);
         sums = λ i lt.
             let a = total_set (sums_of i) accounts id v (joined_accounts v w) at in
-            let b = total_set (sums_of i) (set accounts id (joined_accounts v w)) other w spent there in
+            let b = total_set (sums_of i) (set accounts id (joined_accounts v w)) other w seatless_account there in
             let c = sum-append i v.calls w.calls in
-            let same : total (sums_of i) (set (set accounts id (joined_accounts v w)) other spent)
+            let same : total (sums_of i) (set (set accounts id (joined_accounts v w)) other seatless_account)
             ≡ total (sums_of i) accounts = omega (arith, a, b, c) in
             rw same (rule.sums i lt);
       }
 
 -- one more account, of no seat, keeps the sums
 pub sums_with_one_more : (seats : ℕ) (words : List ℕ) (accounts : List Account)
-    → AreSums seats words accounts → AreSums seats words (accounts ++ spent ∷ [])
+    → AreSums seats words accounts → AreSums seats words (accounts ++ seatless_account ∷ [])
 sums_with_one_more seats words accounts rule = record {
   many = rule.many;
-  whole = let a = total_snoc seats_of accounts spent in let e = rule.whole in omega (arith, a, e);
+  whole = let a = total_snoc seats_of accounts seatless_account in let e = rule.whole in omega (arith, a, e);
   blank = λ by a e zero_seats. ⊎_elim
       (λ (was : get_elem? accounts by ≡ some a). rule.blank by a was zero_seats)
-      (λ (new : spent ≡ a). subst (λ (u : Account). u.calls ≡ []) new refl)
-      (at_snoc accounts spent a by e);
+      (λ (new : seatless_account ≡ a). subst (λ (u : Account). u.calls ≡ []) new refl)
+      (at_snoc accounts seatless_account a by e);
   sums = λ i lt.
-      let a = total_snoc (sums_of i) accounts spent in
-      let same : total (sums_of i) (accounts ++ spent ∷ []) ≡ total (sums_of i) accounts = omega (arith, a) in
+      let a = total_snoc (sums_of i) accounts seatless_account in
+      let same : total (sums_of i) (accounts ++ seatless_account ∷ []) ≡ total (sums_of i) accounts = omega (arith, a) in
       rw same (rule.sums i lt);
 }
 
@@ -227,7 +227,7 @@ zero_at (suc n) zero = refl
 zero_at (suc n) (suc i) = zero_at n i
 
 -- at the start all words are 0, and one account has all seats and no calls
-pub sums_at_start : (seats : ℕ) → AreSums seats (zeros 64) (opened seats ∷ [])
+pub sums_at_start : (seats : ℕ) → AreSums seats (zeros 64) (fresh_account seats ∷ [])
 sums_at_start seats = record {
   many = refl;
   whole = omega arith;
@@ -235,8 +235,8 @@ sums_at_start seats = record {
   sums = λ i lt. zero_at 64 i;
 }
   where
-    one : (by : ℕ) (a : Account) → get_elem? (opened seats ∷ []) by ≡ some a → a.seats ≡ 0 → a.calls ≡ []
-    one zero a e z = subst (λ (u : Account). u.calls ≡ []) (some-injective (opened seats) a e) refl
+    one : (by : ℕ) (a : Account) → get_elem? (fresh_account seats ∷ []) by ≡ some a → a.seats ≡ 0 → a.calls ≡ []
+    one zero a e z = subst (λ (u : Account). u.calls ≡ []) (some-injective (fresh_account seats) a e) refl
     one (suc by) a e z = absurd (some-ne-none a (sym e))
 
 -- a word that was read

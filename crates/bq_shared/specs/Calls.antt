@@ -22,8 +22,8 @@ module _ {R : Type 0} (calls : R → List CounterCall) where
   account_of xs = record { seats = 1; calls = calls_of xs }
 
   -- what the seat holds is in step: its account has exactly the calls in its receipts
-  abbrev pub IsTallied : {P D N : Type 0} → Working R P D N → Type 0
-  IsTallied working = working.tally ≡ account_of (receipts_of working.caller)
+  abbrev pub AccountMatchesReceipts : {P D N : Type 0} → Working R P D N → Type 0
+  AccountMatchesReceipts working = working.account ≡ account_of (receipts_of working.caller)
 
   -- the account of such a seat after further calls, which no receipt has yet
   abbrev pub ahead : List (Receipt R) → List CounterCall → Account

@@ -9,12 +9,12 @@ use Rattle.bq_history.specs.Whole.{total}
 use Rattle.bq_shared.specs.declared.account.Account.{Account}
 
 -- an account of no seat, without calls
-abbrev pub spent : Account
-spent = record { seats = 0; calls = [] }
+abbrev pub seatless_account : Account
+seatless_account = record { seats = 0; calls = [] }
 
 -- the account of some seats, without calls
-abbrev pub opened : ℕ → Account
-opened n = record { seats = n; calls = [] }
+abbrev pub fresh_account : ℕ → Account
+fresh_account n = record { seats = n; calls = [] }
 
 -- the account after one more call
 abbrev pub account_called : Account → CounterCall → Account

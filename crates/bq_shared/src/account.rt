@@ -24,19 +24,20 @@ impl Counting for Brand {
     ghost counters = { record { words = 0; slots = 0; views_name = 0; atom = 0; block = 0; offset = 0; slot_names = [] } };
 }
 
-/// Lets its owner call the counters that `N` names, and holds the account of those calls. It has no bytes.
+/// Lets its owner call the counters that `N` names, and holds the account of those calls. It has no bytes. Contracts see the
+/// account.
 #[derive(Drop)]
-pub struct CounterTally<N: Counting> {
+pub struct CounterAccount<N: Counting> {
     pub(crate) seat: Seat<(), Account>,
     pub(crate) of: PhantomData<N>,
 }
 
-impl<N: Counting> Model for CounterTally<N> {
+impl<N: Counting> Model for CounterAccount<N> {
     ghost use Rattle.std.specs.Prelude.{◌≡◌, []};
     ghost use Rattle.bq_history.specs.Tables.{view_of, slots_of};
-    ghost use Rattle.bq_shared.specs.declared.account.Account.{Account as AccountOf};
+    ghost use Rattle.bq_shared.specs.declared.account.Account.{Account as AccountValue};
 
-    ghost Value = { AccountOf };
+    ghost Value = { AccountValue };
 
     ghost view = { λ t. view_of t.seat.me };
 
@@ -47,11 +48,11 @@ impl<N: Counting> Model for CounterTally<N> {
 pub struct Summed;
 
 impl TableRule<(), Account, u64> for Summed {
-    ghost use Rattle.bq_shared.specs.Sums.{AreSums, opened};
+    ghost use Rattle.bq_shared.specs.Sums.{AreSums, fresh_account};
 
     ghost holds = { λ seats s. AreSums seats s.words s.views };
 
-    ghost first = { λ seats. opened seats };
+    ghost first = { λ seats. fresh_account seats };
 }
 
 /// An add, which the account records.
@@ -78,45 +79,45 @@ impl Play<(), Account> for Reading {
     ghost then = { λ step v found w. (view_of w ≡ account_called (view_of v) (Read step.word found)) × (slots_of w ≡ slots_of v) };
 }
 
-/// A look, which no account records.
-pub struct Looking;
+/// A read that no account records.
+pub struct UnrecordedReading;
 
-impl Play<(), Account> for Looking {
+impl Play<(), Account> for UnrecordedReading {
     ghost use Rattle.std.specs.Prelude.{◌≡◌};
     ghost use Rattle.bq_history.specs.Tables.{view_of, slots_of};
 
     ghost then = { λ _ v _ w. (view_of w ≡ view_of v) × (slots_of w ≡ slots_of v) };
 }
 
-/// A look by one who has no account yet. It makes an account of no seat.
-pub struct UnseatedLook;
+/// A read by one who has no account yet. It makes an account of no seat.
+pub struct UnseatedReading;
 
-impl Play<(), Account> for UnseatedLook {
+impl Play<(), Account> for UnseatedReading {
     ghost use Rattle.std.specs.Prelude.{◌≡◌, []};
     ghost use Rattle.bq_history.specs.Tables.{view_of, slots_of};
-    ghost use Rattle.bq_shared.specs.Sums.{spent};
+    ghost use Rattle.bq_shared.specs.Sums.{seatless_account};
 
-    ghost then = { λ _ _ _ w. (view_of w ≡ spent) × (slots_of w ≡ []) };
+    ghost then = { λ _ _ _ w. (view_of w ≡ seatless_account) × (slots_of w ≡ []) };
 }
 
 /// Gives one seat an account of its own.
 pub struct OneSeat;
 
 impl Split<Account> for OneSeat {
-    ghost use Rattle.bq_shared.specs.Sums.{without_one, opened};
+    ghost use Rattle.bq_shared.specs.Sums.{without_one, fresh_account};
 
     ghost left = { without_one };
 
-    ghost right = { λ _. opened 1 };
+    ghost right = { λ _. fresh_account 1 };
 }
 
-/// Gives the whole account to another tally.
+/// Moves all that an account has to a new one.
 pub struct WholeAccount;
 
 impl Split<Account> for WholeAccount {
-    ghost use Rattle.bq_shared.specs.Sums.{spent};
+    ghost use Rattle.bq_shared.specs.Sums.{seatless_account};
 
-    ghost left = { λ _. spent };
+    ghost left = { λ _. seatless_account };
 
     ghost right = { λ v. v };
 }
@@ -125,9 +126,9 @@ impl Split<Account> for WholeAccount {
 pub struct AccountsJoined;
 
 impl Join<Account> for AccountsJoined {
-    ghost use Rattle.bq_shared.specs.Sums.{joined_accounts, spent as empty};
+    ghost use Rattle.bq_shared.specs.Sums.{joined_accounts, seatless_account};
 
     ghost both = { joined_accounts };
 
-    ghost spent = { empty };
+    ghost spent = { seatless_account };
 }

@@ -8,7 +8,7 @@ ghost use Rattle.bq_shared.specs.Sums.{AreSumsOf};
 ghost use Rattle.bq_shared.specs.Calls.{account_by, calls_in};
 
 use crate::seat::{ReportsCalls, Seat};
-use crate::{CounterTally, Counters, Counting};
+use crate::{CounterAccount, Counters, Counting};
 use bq_bpf::board::COUNTERS;
 use bq_history::{ClosedRecords, History, HolderOf, JournalOf, Naming, World, finish};
 
@@ -42,11 +42,11 @@ fn leave_all<R: ReportsCalls + Drop, M: World<Record = R>, N: Naming + Counting>
     all: &mut HolderOf<M, N>,
     counters: &Counters<N>,
     seats: Vec<Seat<R, M::Part, M::Kept, N>>,
-) -> CounterTally<N>
+) -> CounterAccount<N>
     ensures items { all.new ≡ all.old ++ map caller_of seats.items }
     ensures account { result ≡ account_by R.calls seats.items }
 {
-    let mut account = counters.none();
+    let mut account = counters.seatless_account();
     for seat in seats {
         seat.leave(history, all, counters, &mut account);
     }

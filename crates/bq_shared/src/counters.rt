@@ -2,11 +2,11 @@
 ghost use Rattle.std.specs.Prelude.{◌≡◌, ◌<◌, ◌≤◌, IfOk, []};
 ghost use Rattle.bq_bpf.specs.declared.board.CounterCall.TheVariants.{Add, Read};
 ghost use Rattle.bq_history.specs.Tables.{table_of, start_of};
-ghost use Rattle.bq_shared.specs.Sums.{AreSumsOf, joined_accounts, account_called, opened, spent, without_one};
+ghost use Rattle.bq_shared.specs.Sums.{AreSumsOf, joined_accounts, account_called, fresh_account, seatless_account, without_one};
 
 use crate::account::{
-    Account, AccountsJoined, Adding, CounterTally, Counting, Looking, OneSeat, Reading, Summed,
-    UnseatedLook, WholeAccount,
+    Account, AccountsJoined, Adding, CounterAccount, Counting, OneSeat, Reading, Summed,
+    UnrecordedReading, UnseatedReading, WholeAccount,
 };
 use atomic_table::{Seat, Table};
 use bq_bpf::board::COUNTERS;
@@ -25,13 +25,13 @@ impl Model for UnnamedCounters {
     ghost use Rattle.atomic_table.specs.Seated.{TableId};
     ghost use Rattle.bq_bpf.specs.declared.board.TheConstants.{COUNTERS};
     ghost use Rattle.bq_history.specs.Tables.{IsOfWords};
-    ghost use Rattle.bq_shared.specs.Sums.{opened};
+    ghost use Rattle.bq_shared.specs.Sums.{fresh_account};
 
     ghost Value = { TableId × ℕ };
 
     ghost view = { λ u. (u.table.shared.table_id, u.table.shared.key) };
 
-    ghost invariant = { λ u. IsOfWords COUNTERS u.table.shared.table_id × (u.seat.table_id ≡ u.table.shared.table_id) × (u.seat.me ≡ (opened u.table.shared.key, [])) };
+    ghost invariant = { λ u. IsOfWords COUNTERS u.table.shared.table_id × (u.seat.table_id ≡ u.table.shared.table_id) × (u.seat.me ≡ (fresh_account u.table.shared.key, [])) };
 }
 
 /// The counters of a machine. Contracts see the number of seats.
@@ -54,7 +54,7 @@ impl<N: Counting> Model for Counters<N> {
 }
 
 impl UnnamedCounters {
-    /// New counters, all of them 0.
+    /// Makes counters that are all 0, for this many seats. It takes memory for their table.
     pub fn new(alloc: Global, seats: u64) -> Result<UnnamedCounters, AllocError>
         ensures { IfOk result (λ u. start_of u ≡ seats) }
     {
@@ -62,10 +62,10 @@ impl UnnamedCounters {
         Ok(UnnamedCounters { table, seat })
     }
 
-    /// The counters under their name, and the account of all seats.
-    pub fn named<N: Counting>(self) -> (Counters<N>, CounterTally<N>)
+    /// Names the counters. Returns them with the account of all seats.
+    pub fn named<N: Counting>(self) -> (Counters<N>, CounterAccount<N>)
         requires { table_of self ≡ N.counters }
-        ensures { (result.0 ≡ start_of self) × (result.1 ≡ opened (start_of self)) }
+        ensures { (result.0 ≡ start_of self) × (result.1 ≡ fresh_account (start_of self)) }
     {
         let UnnamedCounters { table, seat } = self;
         (
@@ -73,7 +73,7 @@ impl UnnamedCounters {
                 table,
                 of: PhantomData,
             },
-            CounterTally {
+            CounterAccount {
                 seat,
                 of: PhantomData,
             },
@@ -82,89 +82,89 @@ impl UnnamedCounters {
 }
 
 impl<N: Counting> Counters<N> {
-    /// An account of no seat.
-    pub fn none(&self) -> CounterTally<N>
-        ensures { result ≡ spent }
+    /// Makes an account of no seat.
+    pub fn seatless_account(&self) -> CounterAccount<N>
+        ensures { result ≡ seatless_account }
     {
-        let (_, seat) = self.table.shared.load_new_seat::<UnseatedLook>(0);
-        CounterTally {
+        let (_, seat) = self.table.shared.load_new_seat::<UnseatedReading>(0);
+        CounterAccount {
             seat,
             of: PhantomData,
         }
     }
 
-    /// Takes the account of one seat out of another account.
-    pub fn take_seat(&self, from: &mut CounterTally<N>) -> CounterTally<N>
+    /// Takes the account of one seat out of an account without calls.
+    pub fn take_seat(&self, from: &mut CounterAccount<N>) -> CounterAccount<N>
         requires { (1 ≤ from.old.seats) × (from.old.calls ≡ []) }
-        ensures { (from.new ≡ without_one from.old) × (result ≡ opened 1) }
+        ensures { (from.new ≡ without_one from.old) × (result ≡ fresh_account 1) }
     {
         let seat = self.table.shared.split_seat::<OneSeat>(&mut from.seat);
-        CounterTally {
+        CounterAccount {
             seat,
             of: PhantomData,
         }
     }
 
-    /// Gives the whole account to a new tally.
-    pub fn take_all(&self, from: &mut CounterTally<N>) -> CounterTally<N>
-        ensures { (from.new ≡ spent) × (result ≡ from.old) }
+    /// Moves all that an account has to a new one.
+    pub fn take_all(&self, from: &mut CounterAccount<N>) -> CounterAccount<N>
+        ensures { (from.new ≡ seatless_account) × (result ≡ from.old) }
     {
         let seat = self.table.shared.split_seat::<WholeAccount>(&mut from.seat);
-        CounterTally {
+        CounterAccount {
             seat,
             of: PhantomData,
         }
     }
 
-    /// Gives the account of one tally to another.
-    pub fn join(&self, to: &mut CounterTally<N>, other: CounterTally<N>)
+    /// Adds another account to this one.
+    pub fn join(&self, to: &mut CounterAccount<N>, other: CounterAccount<N>)
         ensures { to.new ≡ joined_accounts to.old other }
     {
-        let CounterTally { seat, of: _ } = other;
+        let CounterAccount { seat, of: _ } = other;
         self.table
             .shared
             .join_seat::<AccountsJoined>(&mut to.seat, seat);
     }
 
-    /// Adds to a counter, and answers the value before.
-    pub fn add(&self, tally: &mut CounterTally<N>, counter: u8, amount: u64) -> u64
+    /// Adds to a counter, modulo 2^64. Returns the value before; the account records this add.
+    pub fn add(&self, account: &mut CounterAccount<N>, counter: u8, amount: u64) -> u64
         requires counter { counter < COUNTERS }
-        requires seat { 1 ≤ tally.old.seats }
-        ensures { tally.new ≡ account_called tally.old (Add counter amount result) }
+        requires seat { 1 ≤ account.old.seats }
+        ensures { account.new ≡ account_called account.old (Add counter amount result) }
     {
         self.table
             .shared
-            .fetch_add::<Adding>(&mut tally.seat, usize::from(counter), amount)
+            .fetch_add::<Adding>(&mut account.seat, usize::from(counter), amount)
     }
 
-    /// The value of a counter. The account records this read.
-    pub fn read(&self, tally: &mut CounterTally<N>, counter: u8) -> u64
+    /// Reads a counter. The account records this read.
+    pub fn read(&self, account: &mut CounterAccount<N>, counter: u8) -> u64
         requires counter { counter < COUNTERS }
-        requires seat { 1 ≤ tally.old.seats }
-        ensures { tally.new ≡ account_called tally.old (Read counter result) }
+        requires seat { 1 ≤ account.old.seats }
+        ensures { account.new ≡ account_called account.old (Read counter result) }
     {
         self.table
             .shared
-            .load::<Reading>(&mut tally.seat, usize::from(counter))
+            .load::<Reading>(&mut account.seat, usize::from(counter))
     }
 
-    /// The value of a counter. No account records this look.
-    pub fn counter(&self, tally: &mut CounterTally<N>, counter: u8) -> u64
+    /// Reads a counter. No account records this read.
+    pub fn counter(&self, account: &mut CounterAccount<N>, counter: u8) -> u64
         requires { counter < COUNTERS }
-        ensures { tally.new ≡ tally.old }
+        ensures { account.new ≡ account.old }
     {
         self.table
             .shared
-            .load::<Looking>(&mut tally.seat, usize::from(counter))
+            .load::<UnrecordedReading>(&mut account.seat, usize::from(counter))
     }
 
-    /// The counters at the end. Given the account of all seats, each counter is the sum of the recorded adds, modulo 2^64.
-    pub fn close(self, all: CounterTally<N>) -> [u64; COUNTERS]
+    /// Ends the counters, given the account of all seats. Returns their values: each is the sum of the recorded adds, modulo 2^64.
+    pub fn close(self, all: CounterAccount<N>) -> [u64; COUNTERS]
         requires whole { all.seats ≡ self }
         ensures { AreSumsOf all.calls result }
     {
         let Counters { table, of: _ } = self;
-        let CounterTally { seat, of: _ } = all;
+        let CounterAccount { seat, of: _ } = all;
         let closed = table.close_with(seat);
         let mut words = [0; COUNTERS];
         for i in 0..COUNTERS {

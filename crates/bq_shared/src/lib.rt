@@ -20,7 +20,7 @@ pub mod same;
 mod seat;
 mod working;
 
-pub use account::{Account, CounterTally, Counting};
+pub use account::{Account, CounterAccount, Counting};
 pub use answer::PackedAnswer;
 pub use calls::{CallRooms, Calls, hold_calls};
 pub use cells::{NumberedCpu, NumberedInbox, OneLobby, UnderLock};

@@ -4,12 +4,12 @@ ghost use Rattle.bq_bpf.specs.declared.board.CounterCall.{CounterCall};
 ghost use Rattle.bq_history.specs.declared.shared_state.Receipt.{Receipt as ReceiptOf};
 ghost use Rattle.bq_history.specs.Callers.{receipts_of};
 ghost use Rattle.bq_history.specs.Items.{caller_of};
-ghost use Rattle.bq_shared.specs.Sums.{joined_accounts, opened};
+ghost use Rattle.bq_shared.specs.Sums.{joined_accounts, fresh_account};
 ghost use Rattle.bq_shared.specs.Calls.{account_of};
 
 use crate::calls::CallRooms;
 use crate::working::Working;
-use crate::{CounterTally, Counters, Counting};
+use crate::{CounterAccount, Counters, Counting};
 use bq_bpf::board::COUNTERS;
 use bq_history::{Caller, History, Holder, Item, Naming, Numbered, Room, World};
 use std::marker::Model;
@@ -39,51 +39,51 @@ impl<R: ReportsCalls + Drop, P, D, N: Naming + Counting> Model for Seat<R, P, D,
 
     ghost Value = { ℕ × List (ReceiptOf R) };
 
-    ghost use Rattle.bq_shared.specs.Calls.{IsTallied};
+    ghost use Rattle.bq_shared.specs.Calls.{AccountMatchesReceipts};
 
     ghost view = { λ s. s.working.caller };
 
-    ghost invariant = { λ s. IsTallied R.calls s.working };
+    ghost invariant = { λ s. AccountMatchesReceipts R.calls s.working };
 }
 
 impl<R: ReportsCalls + Drop, P, D, N: Naming + Counting> Seat<R, P, D, N> {
-    /// A seat that has called nothing.
-    pub fn new(caller: Caller<R, P, D, N>, tally: CounterTally<N>) -> Seat<R, P, D, N>
+    /// Makes a seat that has called nothing.
+    pub fn new(caller: Caller<R, P, D, N>, account: CounterAccount<N>) -> Seat<R, P, D, N>
         requires caller { receipts_of caller ≡ [] }
-        requires tally { tally ≡ opened 1 }
+        requires account { account ≡ fresh_account 1 }
         ensures { result ≡ caller }
     {
         Seat {
-            working: Working { caller, tally },
+            working: Working { caller, account },
             record_room: Room::new(),
             second_record_room: Room::new(),
             call_rooms: None,
         }
     }
 
-    /// Gives what the seat has to a holder and to an account of all seats.
+    /// Gives the seat's caller to a holder, and its account to the total of all seats.
     pub(crate) fn leave<M: World<Record = R, Part = P, Kept = D>>(
         self,
         history: &History<M, N>,
         all: &mut Holder<Item<R, P, D>, N>,
         counters: &Counters<N>,
-        account: &mut CounterTally<N>,
+        total: &mut CounterAccount<N>,
     )
         ensures caller { all.new ≡ all.old ++ caller_of self ∷ [] }
-        ensures tally { account.new ≡ joined_accounts account.old (account_of R.calls (receipts_of self)) }
+        ensures total { total.new ≡ joined_accounts total.old (account_of R.calls (receipts_of self)) }
     {
         let Seat { working, .. } = self;
-        let Working { caller, tally } = working;
+        let Working { caller, account } = working;
         caller.join(history, all);
-        counters.join(account, tally);
+        counters.join(total, account);
     }
 
-    /// The value of a counter. It takes no lock, and no record mentions it.
+    /// Reads a counter. It takes no lock, and no record mentions it.
     pub fn counter(&mut self, counters: &Counters<N>, counter: u8) -> u64
         requires { counter < COUNTERS }
         ensures { self.new ≡ self.old }
     {
-        counters.counter(&mut self.working.tally, counter)
+        counters.counter(&mut self.working.account, counter)
     }
 }
 

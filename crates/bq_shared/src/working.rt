@@ -3,11 +3,11 @@ ghost use Rattle.std.specs.Prelude.{◌≡◌, ◌≤◌, [], true};
 ghost use Rattle.bq_history.specs.Callers.{receipts_of, with_receipt};
 ghost use Rattle.bq_history.specs.Journals.{kept_of, kept_after, with_record, HasFreePlace, IsNextReceipt};
 ghost use Rattle.bq_history.specs.Items.{MayCommit, MayCommitCell, MayCommitCells, IsCellCommitted};
-ghost use Rattle.bq_shared.specs.Sums.{spent};
-ghost use Rattle.bq_shared.specs.Calls.{ahead, IsTallied};
+ghost use Rattle.bq_shared.specs.Sums.{seatless_account};
+ghost use Rattle.bq_shared.specs.Calls.{ahead, AccountMatchesReceipts};
 
 use crate::seat::ReportsCalls;
-use crate::{CounterBoard, CounterTally, Counters, Counting};
+use crate::{CounterAccount, CounterBoard, Counters, Counting};
 use bq_history::{
     AsPart, Caller, Cell, CommitDraft, History, Journal, Naming, Receipt, World, commit,
     commit_one, commit_two,
@@ -18,29 +18,29 @@ use bq_history::{
 #[derive(Drop)]
 pub struct Working<R, P, D, N: Naming + Counting> {
     pub caller: Caller<R, P, D, N>,
-    pub tally: CounterTally<N>,
+    pub account: CounterAccount<N>,
 }
 
 impl<R: ReportsCalls, P, D, N: Naming + Counting> Working<R, P, D, N> {
     /// Moves the account to a counter board, on which a policy may run.
     pub fn open_board<'a>(&mut self, counters: &'a Counters<N>) -> CounterBoard<'a, N>
-        requires { 1 ≤ self.old.tally.seats }
-        ensures counter_board { result.tally ≡ self.old.tally }
+        requires { 1 ≤ self.old.account.seats }
+        ensures counter_board { result.account ≡ self.old.account }
         ensures caller { self.new.caller ≡ self.old.caller }
-        ensures tally { self.new.tally ≡ spent }
+        ensures account { self.new.account ≡ seatless_account }
     {
-        let tally = counters.take_all(&mut self.tally);
-        CounterBoard { counters, tally }
+        let account = counters.take_all(&mut self.account);
+        CounterBoard { counters, account }
     }
 
     /// Moves the account back from the counter board, with the calls that were made there.
     pub fn close_board(&mut self, counter_board: CounterBoard<'_, N>)
-        requires { self.old.tally ≡ spent }
+        requires { self.old.account ≡ seatless_account }
         ensures caller { self.new.caller ≡ self.old.caller }
-        ensures tally { self.new.tally ≡ counter_board.entry.tally }
+        ensures account { self.new.account ≡ counter_board.entry.account }
     {
-        let CounterBoard { counters, tally } = counter_board;
-        counters.join(&mut self.tally, tally);
+        let CounterBoard { counters, account } = counter_board;
+        counters.join(&mut self.account, account);
     }
 
     /// Commits a record that changes no part. The record has those calls of the account that no receipt has yet.
@@ -56,12 +56,12 @@ impl<R: ReportsCalls, P, D, N: Naming + Counting> Working<R, P, D, N> {
         requires fits { HasFreePlace journal.old }
         requires ready { draft.room.now ≡ true }
         requires same { draft.logged ≡ draft.reported }
-        requires reported { self.old.tally ≡ ahead R.calls (receipts_of self.old.caller) (R.calls draft.reported) }
+        requires reported { self.old.account ≡ ahead R.calls (receipts_of self.old.caller) (R.calls draft.reported) }
         requires may { MayCommit (M.step history.now.setup) (M.opening history.now.setup) M.kept M.same M.fits (kept_of journal.old) [] draft.reported (kept_after (kept_of journal.old) draft.kept) [] }
         ensures receipt { IsNextReceipt draft.entry.reported journal.old result }
         ensures journal { journal.new ≡ with_record draft.entry.reported draft.entry.kept journal.old }
         ensures caller { self.new.caller ≡ with_receipt result self.old.caller }
-        ensures tally { IsTallied R.calls self.new }
+        ensures account { AccountMatchesReceipts R.calls self.new }
     {
         commit(history, journal, &mut self.caller, draft)
     }
@@ -81,12 +81,12 @@ impl<R: ReportsCalls, P, D, N: Naming + Counting> Working<R, P, D, N> {
         requires fits { HasFreePlace journal.old }
         requires ready { draft.room.now ≡ true }
         requires same { draft.logged ≡ draft.reported }
-        requires reported { self.old.tally ≡ ahead R.calls (receipts_of self.old.caller) (R.calls draft.reported) }
+        requires reported { self.old.account ≡ ahead R.calls (receipts_of self.old.caller) (R.calls draft.reported) }
         requires may { MayCommitCell (M.step history.now.setup) (M.opening history.now.setup) M.kept M.same M.fits A.part a.old (kept_of journal.old) draft.reported draft.kept }
         ensures receipt { IsNextReceipt draft.entry.reported journal.old result }
         ensures journal { journal.new ≡ with_record draft.entry.reported draft.entry.kept journal.old }
         ensures caller { self.new.caller ≡ with_receipt result self.old.caller }
-        ensures tally { IsTallied R.calls self.new }
+        ensures account { AccountMatchesReceipts R.calls self.new }
         ensures a { IsCellCommitted A.part a.old a.new }
     {
         commit_one(history, journal, &mut self.caller, a, draft)
@@ -107,12 +107,12 @@ impl<R: ReportsCalls, P, D, N: Naming + Counting> Working<R, P, D, N> {
         requires fits { HasFreePlace journal.old }
         requires ready { draft.room.now ≡ true }
         requires same { draft.logged ≡ draft.reported }
-        requires reported { self.old.tally ≡ ahead R.calls (receipts_of self.old.caller) (R.calls draft.reported) }
+        requires reported { self.old.account ≡ ahead R.calls (receipts_of self.old.caller) (R.calls draft.reported) }
         requires may { MayCommitCells (M.step history.now.setup) (M.opening history.now.setup) M.kept M.same M.fits A.part B.part a.old b.old (kept_of journal.old) draft.reported draft.kept }
         ensures receipt { IsNextReceipt draft.entry.reported journal.old result }
         ensures journal { journal.new ≡ with_record draft.entry.reported draft.entry.kept journal.old }
         ensures caller { self.new.caller ≡ with_receipt result self.old.caller }
-        ensures tally { IsTallied R.calls self.new }
+        ensures account { AccountMatchesReceipts R.calls self.new }
         ensures a { IsCellCommitted A.part a.old a.new }
         ensures b { IsCellCommitted B.part b.old b.new }
     {

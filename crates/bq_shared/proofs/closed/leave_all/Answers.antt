@@ -14,7 +14,7 @@ loop-seat-preserved g c =
     record {
       items = c.leave.ensures.caller ∙ mapped_more caller_of l.all c.args.all.now l.yielded s s l.invariant.items refl;
       account =
-          c.leave.ensures.tally
+          c.leave.ensures.total
           ∙ accounts_more g.R.ReportsCalls.calls l.yielded s l.account (account_of g.R.ReportsCalls.calls s.1) l.invariant.account refl;
     }
 

@@ -25,7 +25,7 @@ loop-number-preserved g c =
       callers =
           c.next_seat.ensures.callers
           ∙ ap others_of (c.loop-number.invariant.callers ∙ caller_turn c.loop-number.number c.args.count b);
-      tallies =
-          c.next_seat.ensures.tallies ∙ ap without_one c.loop-number.invariant.tallies
+      account =
+          c.next_seat.ensures.account ∙ ap without_one c.loop-number.invariant.account
           ∙ account_turn c.loop-number.number c.args.count b;
     }

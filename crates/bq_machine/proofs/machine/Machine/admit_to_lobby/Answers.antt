@@ -23,7 +23,7 @@ commit_one-requires-clause-may g c =
     )
 
 pub commit_one-requires-clause-reported : goal.commit_one-requires-clause-reported
-commit_one-requires-clause-reported g c = rw (c.draft-draft.ensures, c.quiet.ensures) c.requires.tally
+commit_one-requires-clause-reported g c = rw (c.draft-draft.ensures, c.quiet.ensures) c.requires.account
 
 pub quiet-requires-clause-answer : goal.quiet-requires-clause-answer
 quiet-requires-clause-answer g c =

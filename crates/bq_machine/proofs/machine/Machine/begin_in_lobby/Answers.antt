@@ -24,7 +24,7 @@ commit_two-requires-clause-may g c =
     )
 
 pub commit_two-requires-clause-reported : goal.commit_two-requires-clause-reported
-commit_two-requires-clause-reported g c = rw (c.draft-draft.ensures, c.new.ensures, c.no_calls.ensures.logged) c.requires.tally
+commit_two-requires-clause-reported g c = rw (c.draft-draft.ensures, c.new.ensures, c.no_calls.ensures.logged) c.requires.account
 
 pub returns-clause-hand : goal.returns-clause-hand
 returns-clause-hand g c =

@@ -37,7 +37,7 @@ commit_two-requires-clause-may g c =
     )
 
 pub commit_two-requires-clause-reported : goal.commit_two-requires-clause-reported
-commit_two-requires-clause-reported g c = rw (c.draft.ensures, c.quiet-records.ensures) c.requires.tally
+commit_two-requires-clause-reported g c = rw (c.draft.ensures, c.quiet-records.ensures) c.requires.account
 
 pub quiet-records-requires-clause-answer : goal.quiet-records-requires-clause-answer
 quiet-records-requires-clause-answer g c =

@@ -66,9 +66,9 @@ pub commit_two-requires-clause-reported : goal.commit_two-requires-clause-report
 commit_two-requires-clause-reported g c =
     let t = c.drain-reply in
     rw (c.draft-draft.ensures, c.of.ensures, c.hold_calls-held.ensures.record, c.calls.ensures.value)
-    (ahead_of (λ x. x.tally) c.open_board-counter_board.result t.new.board c.args.working.now.caller.1
-    c.close_board.new.self.caller.1 t.new.scratch c.close_board.new.self.tally
-    (c.open_board-counter_board.ensures.counter_board ∙ c.requires.tally) t.ensures.board c.close_board.ensures.tally
+    (ahead_of (λ x. x.account) c.open_board-counter_board.result t.new.board c.args.working.now.caller.1
+    c.close_board.new.self.caller.1 t.new.scratch c.close_board.new.self.account
+    (c.open_board-counter_board.ensures.counter_board ∙ c.requires.account) t.ensures.board c.close_board.ensures.account
     (ap (λ x. x.1) (c.close_board.ensures.caller ∙ c.open_board-counter_board.ensures.caller)))
 
 pub of-requires-clause-answer : goal.of-requires-clause-answer

@@ -7,4 +7,4 @@ commit-receipt-requires-clause-may g c =
     (draw_moves g.Q.R.Discipline.discipline c.args.self.now.recorder.history.setup c.deref_mut-journal.result.now.1)
 
 pub commit-receipt-requires-clause-reported : goal.commit-receipt-requires-clause-reported
-commit-receipt-requires-clause-reported g c = rw (c.draft-draft.ensures, c.quiet.ensures) c.requires.tally
+commit-receipt-requires-clause-reported g c = rw (c.draft-draft.ensures, c.quiet.ensures) c.requires.account

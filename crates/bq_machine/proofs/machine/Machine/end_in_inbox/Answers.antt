@@ -65,4 +65,4 @@ commit_two-requires-clause-may g c =
 pub commit_two-requires-clause-reported : goal.commit_two-requires-clause-reported
 commit_two-requires-clause-reported g c =
     rw (c.draft-draft.ensures, c.of-records.ensures, c.hold_calls-calls.ensures.record, c.calls.ensures.value)
-    c.place_task-woken.ensures.tally
+    c.place_task-woken.ensures.account

@@ -58,7 +58,7 @@ commit_one-requires-clause-may g c =
     )
 
 pub commit_one-requires-clause-reported : goal.commit_one-requires-clause-reported
-commit_one-requires-clause-reported g c = rw (c.draft-draft.ensures, c.new.ensures, c.no_calls.ensures.logged) c.requires.tally
+commit_one-requires-clause-reported g c = rw (c.draft-draft.ensures, c.new.ensures, c.no_calls.ensures.logged) c.requires.account
 
 pub answer_twice-requires : goal.answer_twice-requires
 answer_twice-requires g c = installs_brief c.args.hook _ _ _ c.replace-reply.result c.replace-reply.new.self c.replace-reply.ensures.share

@@ -39,7 +39,7 @@ installs-preserved g c =
       caller =
           called ∙ ap (λ (l : List (Receipt Record)). (start.0, l))
           (append_assoc start.1 at.installs.items (x ∷ []) ∙ ap (λ (l : List (Receipt Record)). start.1 ++ l) (sym c.keep.ensures.items));
-      tally = c.install-receipt.ensures.tally;
+      account = c.install-receipt.ensures.account;
       left = search rules;
       same =
           rw c.pop.ensures.rest

@@ -2,7 +2,7 @@ use Rattle.std.proofs.Common.{◌≡◌, ◌+◌, ◌≤◌, vec_len}
 use Rattle.std.specs.Prelude.{vec_capacity}
 use Rattle.std.specs.List.{All}
 use Rattle.bq_history.specs.Callers.{with_receipts}
-use Rattle.bq_shared.specs.Calls.{IsTallied}
+use Rattle.bq_shared.specs.Calls.{AccountMatchesReceipts}
 use Rattle.bq_shared.specs.Parts.{reported_calls}
 use Rattle.bq_machine.specs.Calls.{AreInstalls}
 use Rattle.bq_machine.proofs.machine.Machine.install_all.Given as goal
@@ -10,7 +10,7 @@ use Rattle.bq_machine.proofs.machine.Machine.install_all.Given as goal
 abbrev pub invariant-installs : goal.invariant-installs
 invariant-installs g l = record {
   caller : l.working.caller ≡ with_receipts l.installs.items l.initial.working.caller;
-  tally : IsTallied reported_calls l.working;
+  account : AccountMatchesReceipts reported_calls l.working;
   left : vec_len l.spares + l.number ≡ g.row.P;
   same : All (λ s. s.installed.policy ≡ l.loading.policy.now) l.spares.items;
   made : vec_len l.installs ≡ l.number;

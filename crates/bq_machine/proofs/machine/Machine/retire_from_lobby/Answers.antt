@@ -27,4 +27,4 @@ commit_one-requires-clause-may g c =
     )
 
 pub commit_one-requires-clause-reported : goal.commit_one-requires-clause-reported
-commit_one-requires-clause-reported g c = rw (c.draft-draft.ensures, c.quiet.ensures) c.requires.tally
+commit_one-requires-clause-reported g c = rw (c.draft-draft.ensures, c.quiet.ensures) c.requires.account

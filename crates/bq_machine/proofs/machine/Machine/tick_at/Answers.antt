@@ -43,7 +43,7 @@ pub commit_one-requires-clause-reported : goal.commit_one-requires-clause-report
 commit_one-requires-clause-reported g c =
     let t = c.tick-reply in
     rw (c.draft-draft.ensures, c.of_tick.ensures, c.hold_calls-held.ensures.record, c.calls.ensures.value)
-    (ahead_of (λ x. x.tally) c.open_board-counter_board.result t.new.board c.args.working.now.caller.1
-    c.close_board.new.self.caller.1 t.new.scratch c.close_board.new.self.tally
-    (c.open_board-counter_board.ensures.counter_board ∙ c.requires.tally) t.ensures.board c.close_board.ensures.tally
+    (ahead_of (λ x. x.account) c.open_board-counter_board.result t.new.board c.args.working.now.caller.1
+    c.close_board.new.self.caller.1 t.new.scratch c.close_board.new.self.account
+    (c.open_board-counter_board.ensures.counter_board ∙ c.requires.account) t.ensures.board c.close_board.ensures.account
     (ap (λ x. x.1) (c.close_board.ensures.caller ∙ c.open_board-counter_board.ensures.caller)))

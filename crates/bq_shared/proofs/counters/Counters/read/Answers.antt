@@ -9,15 +9,15 @@ use Rattle.bq_shared.proofs.counters.Counters.read.Goals as goal
 pub load-requires : goal.load-requires
 load-requires g c =
     let low : c.from.result < 64 = omega (arith, c.from.ensures, c.requires.counter) in
-    let some_seat : 1 ≤ c.tally.inside.seat.me.0.seats = rw c.tally.view_is c.requires.seat in (
-      c.tally.invariant.0 ∙ sym c.self.invariant.0,
+    let some_seat : 1 ≤ c.account.inside.seat.me.0.seats = rw c.account.view_is c.requires.seat in (
+      c.account.invariant.0 ∙ sym c.self.invariant.0,
       omega (arith, low, c.self.invariant.1),
       λ s rule homes at small. (
-        account_called c.tally.inside.seat.me.0 (Read c.from.result (slice_index s.words c.from.result)),
+        account_called c.account.inside.seat.me.0 (Read c.from.result (slice_index s.words c.from.result)),
         keeps,
         tt,
-        sums_after_read c.self.inside.table.shared.key s.words s.views c.tally.inside.seat.id c.from.result
-            c.tally.inside.seat.me.0 rule at low some_seat small,
+        sums_after_read c.self.inside.table.shared.key s.words s.views c.account.inside.seat.id c.from.result
+            c.account.inside.seat.me.0 rule at low some_seat small,
         (refl, refl),
       ),
     )
