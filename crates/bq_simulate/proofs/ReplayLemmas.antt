@@ -26,7 +26,7 @@ use Rattle.bq_simulate.specs.Laws.{CanStandInLine, IsWholeLine, event_command}
 use Rattle.bq_simulate.proofs.LineLawLemmas.{are_lines, events_are_read, machines_are_read}
 use Rattle.bq_parts.specs.Events.{without_policy}
 use Rattle.bq_streams.specs.Counts.{one_more}
-use Rattle.bq_trace.specs.Machines.{Driven, opening_machine}
+use Rattle.bq_trace.specs.Machines.{TraceMachine, opening_machine}
 use Rattle.bq_trace.specs.Feeding.{with_feeds}
 use Rattle.bq_trace.specs.TraceEvents.{Reported, texts}
 use Rattle.bq_trace.specs.Reporting.{Happens}
@@ -82,7 +82,7 @@ opens discipline size n =
     (machines_are_read discipline size) (refl, refl, refl)
 
 -- the line of an event that happens, where it asks for the event itself
-as_it_is : (line : List ℕ) (m k : Driven) (n number : ℕ) (event : Event) (answer : Result Reply Refusal) (reported : Reported)
+as_it_is : (line : List ℕ) (m k : TraceMachine) (n number : ℕ) (event : Event) (answer : Result Reply Refusal) (reported : Reported)
     → reading_of line ≡ reads.Asks (asks.Does event) → Happens m number event answer reported k
     → AnswersLine (after (Running m) n) line (texts reported) (after (Running k) (one_more n))
 as_it_is line m k n number event answer reported is h = line_reads line (texts reported) _ (Running m) (Running k) n is
@@ -124,7 +124,7 @@ brought_stands images (Block c now) h = tt
 brought_stands images (Pull c from now) h = tt
 
 -- an image is loaded again
-loads_again : (line : List ℕ) (image : Option (List ℕ)) (m k : Driven) (n number c generation : ℕ) (hook : Hook)
+loads_again : (line : List ℕ) (image : Option (List ℕ)) (m k : TraceMachine) (n number c generation : ℕ) (hook : Hook)
     (policy : Accepted) (answer : Result Reply Refusal) (reported : Reported)
     → reading_of line ≡ reads.Asks (event_command image (Install c hook generation (Some policy))) → IsLoadedFromImage image policy
     → Happens m number (Install c hook generation (Some policy)) answer reported k
@@ -140,7 +140,7 @@ loads_again line image m k n number c generation hook policy answer reported is 
     )
 
 -- the line of each event that happens does it again
-again : (images : ByHook) (m k : Driven) (n number : ℕ) (event : Event) (answer : Result Reply Refusal) (reported : Reported)
+again : (images : ByHook) (m k : TraceMachine) (n number : ℕ) (event : Event) (answer : Result Reply Refusal) (reported : Reported)
     → reading_of (asking_line (brought images event) event) ≡ reads.Asks (event_command (brought images event) event)
     → IsFromImages images event → Happens m number event answer reported k
     → AnswersLine (after (Running m) n) (asking_line (brought images event) event) (texts reported) (after (Running k) (one_more n))

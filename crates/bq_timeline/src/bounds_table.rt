@@ -45,7 +45,7 @@ impl BoundsTable {
     /// Notes the running task of an event's processor before the event.
     pub fn before_event(&mut self, event: &Event, machine: &AnyCore) {
         self.running = match processor_and_time(event) {
-            Some((processor, _)) => match machine.seen(processor) {
+            Some((processor, _)) => match machine.cpu(processor) {
                 Some(AnyCpu::Cfs(cpu)) => how_it_stands(cpu),
                 Some(AnyCpu::Eevdf(cpu)) => how_it_stands(cpu),
                 None => None,
@@ -68,7 +68,7 @@ impl BoundsTable {
         let processor = reading.processor;
         let rise = reading.current.saturating_sub(reading.previous);
         let running = self.running;
-        match machine.seen(processor) {
+        match machine.cpu(processor) {
             Some(AnyCpu::Cfs(cpu)) => {
                 self.bounds
                     .take(processor, event, reply, running, rise, cpu.mark());

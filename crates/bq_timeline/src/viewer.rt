@@ -171,7 +171,7 @@ impl Sink for Viewer {
                 self.screen.note_not_loaded(number, *fault)
             }
             TraceEvent::ProcessorAsked { processor, machine } => {
-                if machine.seen(*processor).is_some() {
+                if machine.cpu(*processor).is_some() {
                     return self.begin();
                 }
                 self.begin_trouble()?;

@@ -11,7 +11,7 @@ use Rattle.bq_lines.specs.declared.command.LineCommand.TheVariants.{Machine, Doe
 use Rattle.bq_lines.specs.declared.command.LineReading.{LineReading}
 use Rattle.bq_lines.specs.declared.command.LineReading.TheVariants as reads
 use Rattle.bq_lines.proofs.KeptLemmas.{reading_of_short_line-line}
-use Rattle.bq_trace.specs.Machines.{Driven}
+use Rattle.bq_trace.specs.Machines.{TraceMachine}
 use Rattle.bq_trace.specs.Doing.{DoesAndAnswers}
 use Rattle.bq_trace.specs.Loading.{LoadsAndAnswers, load_fault_line, no_hex_line}
 use Rattle.bq_trace.specs.Texts.{event_line, bad_line, counter_line, show_line}
@@ -27,7 +27,7 @@ use Rattle.bq_trace.specs.declared.trace_position.TracePosition.{TracePosition}
 use Rattle.bq_trace.proofs.TakingLemmas.{texts-append, added_by}
 
 -- an event that happens is done and answered
-pub happens_text : (m k : Driven) (n : ℕ) (event : Event) (answer : Result Reply Refusal) (reported : Reported)
+pub happens_text : (m k : TraceMachine) (n : ℕ) (event : Event) (answer : Result Reply Refusal) (reported : Reported)
     → Happens m n event answer reported k → DoesAndAnswers m event answer (texts reported) k
 happens_text m k n event answer reported h = record {
   same_discipline = h.moves.same_discipline;
@@ -36,13 +36,13 @@ happens_text m k n event answer reported h = record {
 }
 
 -- the text of what follows the begin of a wake answers it
-ends_text : (begun : Result Reply Refusal) (m k : Driven) (n c now : ℕ) (reported : Reported)
+ends_text : (begun : Result Reply Refusal) (m k : TraceMachine) (n c now : ℕ) (reported : Reported)
     → EndHappens begun m n c now reported k → EndsWake begun m c now (texts reported) k
 ends_text (Err refusal) m k n c now reported h = (ap texts h.0, h.1)
 ends_text (Ok reply) m k n c now reported h = (h.0, happens_text m k n (EndWake c now) h.0 reported h.1)
 
 -- the text of what comes of a wake answers the wake
-wake_text : (m k : Driven) (n c task now : ℕ) (reported : Reported)
+wake_text : (m k : TraceMachine) (n c task now : ℕ) (reported : Reported)
     → WakeHappens m n c task now reported k → AnswersWake m c task now (texts reported) k
 wake_text m k n c task now reported h = record {
   begun = h.begun;
@@ -55,7 +55,7 @@ wake_text m k n c task now reported h = record {
 }
 
 -- the text of what comes of a load answers the load
-load_text : (m k : Driven) (n c generation : ℕ) (hook : Hook) (image : List ℕ) (reported : Reported)
+load_text : (m k : TraceMachine) (n c generation : ℕ) (hook : Hook) (image : List ℕ) (reported : Reported)
     → LoadHappens m n c hook generation image reported k
     → LoadsAndAnswers m c hook generation image (texts reported) k
 load_text m k n c generation hook image reported (inl h) = inl (h.0, h.1, ap texts h.2 ∙ append-nil no_hex_line, h.3)

@@ -4,20 +4,20 @@ use Rattle.std.specs.Prelude.{is_ok}
 use Rattle.bq_parts.specs.declared.event.Event.TheVariants.{BeginWake, EndWake}
 use Rattle.bq_parts.specs.declared.reply.Reply.{Reply}
 use Rattle.bq_parts.specs.declared.refusal.Refusal.{Refusal}
-use Rattle.bq_trace.specs.Machines.{Driven}
+use Rattle.bq_trace.specs.Machines.{TraceMachine}
 use Rattle.bq_trace.specs.TraceEvents.{TraceEvent, Reported, Gets}
 use Rattle.bq_trace.specs.Reporting.{Happens, EndHappens, WakeHappens}
 use Rattle.bq_trace.proofs.TakingLemmas.{TakesAll-append}
 
 -- if the begin of a wake was not refused, its end is what follows it
-ends : (begun answer : Result Reply Refusal) (mid k : Driven) (n c now : ℕ) (reported : Reported)
+ends : (begun answer : Result Reply Refusal) (mid k : TraceMachine) (n c now : ℕ) (reported : Reported)
     → is_ok begun ≡ true → Happens mid n (EndWake c now) answer reported k
     → EndHappens begun mid n c now reported k
 ends (Ok reply) answer mid k n c now reported ok h = (answer, h)
 ends (Err refusal) answer mid k n c now reported ok h = cc
 
 -- where the begin and then the end are reported, the wake is reported
-pub wakes_both : {S : Type 0} (takes : S → ℕ → TraceEvent → S → Type 0) (m mid k : Driven) (n c task now : ℕ)
+pub wakes_both : {S : Type 0} (takes : S → ℕ → TraceEvent → S → Type 0) (m mid k : TraceMachine) (n c task now : ℕ)
     (begun answer : Result Reply Refusal) (old middle new : S)
     → is_ok begun ≡ true → Gets takes old middle (λ reported. Happens m n (BeginWake c task) begun reported mid)
     → Gets takes middle new (λ reported. Happens mid n (EndWake c now) answer reported k)

@@ -1,12 +1,12 @@
 pub mod Borrowed
 pub mod Cores
+pub mod Cpus
 pub mod Doing
 pub mod Feeding
 pub mod Laws
 pub mod Loading
 pub mod Machines
 pub mod Replaying
-pub mod Seeing
 pub mod Sessions
 pub mod Reporting
 pub mod Texts

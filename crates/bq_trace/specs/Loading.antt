@@ -12,7 +12,7 @@ use Rattle.bq_parts.specs.declared.event.Event.TheVariants.{Install}
 use Rattle.bq_parts.specs.declared.reply.Reply.{Reply}
 use Rattle.bq_parts.specs.declared.refusal.Refusal.{Refusal}
 use Rattle.bq_words.specs.Refused.{refused_line}
-use Rattle.bq_trace.specs.Machines.{Driven}
+use Rattle.bq_trace.specs.Machines.{TraceMachine}
 use Rattle.bq_trace.specs.Doing.{DoesAndAnswers}
 
 -- the line that refuses an image
@@ -24,20 +24,20 @@ abbrev pub no_hex_line : List ℕ
 no_hex_line = refused_line (codes "hex")
 
 -- the word is not hex: it is refused, and the machine stays as it is
-abbrev pub RefusesHex : Driven → List ℕ → List ℕ → Driven → Type 0
+abbrev pub RefusesHex : TraceMachine → List ℕ → List ℕ → TraceMachine → Type 0
 RefusesHex m image text n = (error : FromHexError) × (decode_of image ≡ Err error) × (text ≡ no_hex_line) × (n ≡ m)
 
 -- the word spells bytes that do not load: they are refused, and the machine stays as it is
-abbrev pub RefusesImage : Driven → List ℕ → List ℕ → Driven → Type 0
+abbrev pub RefusesImage : TraceMachine → List ℕ → List ℕ → TraceMachine → Type 0
 RefusesImage m image text n =
     (bytes : List ℕ) × (why : LoadFault) × (decode_of image ≡ Ok bytes) × IsUnloaded bytes why × (why ≢ fault.OutOfMemory) × (text ≡ load_fault_line why) × (n ≡ m)
 
 -- the word spells the image of a program that is accepted, and its policy is installed as an event
-abbrev pub InstallsImage : Driven → ℕ → Hook → ℕ → List ℕ → List ℕ → Driven → Type 0
+abbrev pub InstallsImage : TraceMachine → ℕ → Hook → ℕ → List ℕ → List ℕ → TraceMachine → Type 0
 InstallsImage m c hook generation image text n =
     (bytes : List ℕ) × (policy : Accepted) × (answer : Result Reply Refusal) × (decode_of image ≡ Ok bytes) × Loads bytes policy
     × DoesAndAnswers m (Install c hook generation (Some policy)) answer text n
 
 -- An image is refused and nothing happens, or its policy is installed as an event.
-abbrev pub LoadsAndAnswers : Driven → ℕ → Hook → ℕ → List ℕ → List ℕ → Driven → Type 0
+abbrev pub LoadsAndAnswers : TraceMachine → ℕ → Hook → ℕ → List ℕ → List ℕ → TraceMachine → Type 0
 LoadsAndAnswers m c hook generation image text n = RefusesHex m image text n ⊎ (RefusesImage m image text n ⊎ InstallsImage m c hook generation image text n)

@@ -19,7 +19,7 @@ use Rattle.bq_words.specs.declared.processor_count.ProcessorCount.{ProcessorCoun
 use Rattle.bq_words.specs.Sizes.{processors_in}
 
 -- the machine of a trace: its discipline, its world and its counters
-pub record Driven : Type 0 where
+pub record TraceMachine : Type 0 where
   pub discipline : DisciplineName
   pub world : World
   pub counters : List ℕ
@@ -34,7 +34,7 @@ abbrev pub semantics_of : DisciplineName → PolicySemantics
 semantics_of discipline = by_programs (discipline_of discipline)
 
 -- a machine to which nothing has happened
-abbrev pub opening_machine : DisciplineName → ProcessorCount → Driven
+abbrev pub opening_machine : DisciplineName → ProcessorCount → TraceMachine
 opening_machine discipline size = record { discipline = discipline; world = opening_world (processors_in size); counters = replicate COUNTERS 0 }
 
 -- One event is a step of a world, and the policies' calls lead from the old counters to the new ones.

@@ -23,7 +23,7 @@ use Rattle.bq_lines.specs.declared.command.LineReading.TheVariants as reads
 use Rattle.bq_parts.specs.Events.{without_policy}
 use Rattle.bq_streams.specs.Counts.{one_more}
 use Rattle.bq_trace.specs.Feeding.{with_feeds}
-use Rattle.bq_trace.specs.Machines.{Driven, opening_machine, semantics_of, Advances}
+use Rattle.bq_trace.specs.Machines.{TraceMachine, opening_machine, semantics_of, Advances}
 use Rattle.bq_trace.specs.TraceEvents.{Reported, Opened, Skipped, Comes, Answered, NotHex, NotLoaded, ProcessorAsked, CounterRead, Bad}
 use Rattle.bq_trace.specs.declared.loading.Installation.{Installation}
 use Rattle.bq_trace.specs.declared.phase.Phase.{Phase}
@@ -32,26 +32,26 @@ use Rattle.bq_trace.specs.declared.progress.Progress.{Progress}
 use Rattle.bq_trace.specs.declared.trace_position.TracePosition.{TracePosition}
 
 -- An event is done in the machine's world, under the machine's discipline.
-pub record AdvancesMachine (m : Driven) (event : Event) (answer : Result Reply Refusal) (k : Driven) : Type 0 where
+pub record AdvancesMachine (m : TraceMachine) (event : Event) (answer : Result Reply Refusal) (k : TraceMachine) : Type 0 where
   pub same_discipline : k.discipline ≡ m.discipline
   pub step : Advances (semantics_of m.discipline) m.world m.counters event answer k.world k.counters
 
 -- Line n brings an event, which is reported before it is done, and with its answer after. The reports leave out the policy that
 -- it brings. Lack of memory is no answer.
-pub record Happens (m : Driven) (n : ℕ) (event : Event) (answer : Result Reply Refusal) (reported : Reported) (k : Driven) : Type 0 where
+pub record Happens (m : TraceMachine) (n : ℕ) (event : Event) (answer : Result Reply Refusal) (reported : Reported) (k : TraceMachine) : Type 0 where
   pub answered : answer ≢ Err no.OutOfMemory
   pub moves : AdvancesMachine m event answer k
   pub reports : reported ≡ (n, Comes (without_policy event) m) ∷ (n, Answered (without_policy event) answer k) ∷ []
 
 -- What follows the begin of a wake: its end, or nothing if the begin was refused.
-abbrev pub EndHappens : Result Reply Refusal → Driven → ℕ → ℕ → ℕ → Reported → Driven → Type 0
+abbrev pub EndHappens : Result Reply Refusal → TraceMachine → ℕ → ℕ → ℕ → Reported → TraceMachine → Type 0
 EndHappens (Err refusal) m n c now reported k = (reported ≡ []) × (k ≡ m)
 EndHappens (Ok begun) m n c now reported k = (answer : Result Reply Refusal) × Happens m n (EndWake c now) answer reported k
 
 -- A wake is a begin and what follows the begin. Both are reported.
-pub record WakeHappens (m : Driven) (n c task now : ℕ) (reported : Reported) (k : Driven) : Type 0 where
+pub record WakeHappens (m : TraceMachine) (n c task now : ℕ) (reported : Reported) (k : TraceMachine) : Type 0 where
   pub begun : Result Reply Refusal
-  pub mid : Driven
+  pub mid : TraceMachine
   pub first : Reported
   pub more : Reported
   pub begins : Happens m n (BeginWake c task) begun first mid
@@ -59,7 +59,7 @@ pub record WakeHappens (m : Driven) (n c task now : ℕ) (reported : Reported) (
   pub whole : reported ≡ first ++ more
 
 -- An image is refused and nothing happens, or its policy is installed as an event. Either is reported.
-abbrev pub LoadHappens : Driven → ℕ → ℕ → Hook → ℕ → List ℕ → Reported → Driven → Type 0
+abbrev pub LoadHappens : TraceMachine → ℕ → ℕ → Hook → ℕ → List ℕ → Reported → TraceMachine → Type 0
 LoadHappens m n c hook generation image reported k =
     ((error : FromHexError) × (decode_of image ≡ Err error) × (reported ≡ (n, NotHex) ∷ []) × (k ≡ m))
     ⊎ (((bytes : List ℕ) × (why : LoadFault) × (decode_of image ≡ Ok bytes) × IsUnloaded bytes why × (why ≢ fault.OutOfMemory) × (reported ≡ (n, NotLoaded why) ∷ []) × (k ≡ m))
@@ -67,7 +67,7 @@ LoadHappens m n c hook generation image reported k =
     × Happens m n (Install c hook generation (Some policy)) answer reported k))
 
 -- `LoadHappens`, as an installation asks for it.
-abbrev pub InstallationHappens : Driven → ℕ → Installation → Reported → Driven → Type 0
+abbrev pub InstallationHappens : TraceMachine → ℕ → Installation → Reported → TraceMachine → Type 0
 InstallationHappens m n i reported k = LoadHappens m n i.processor i.hook i.generation i.image reported k
 
 -- what is reported of a line that says nothing. `None` stands for a line that is too long; it does not occur here, as such a line is bad
@@ -84,10 +84,10 @@ Reports Waiting n line (reads.Asks (Machine discipline size)) reported after bad
 Reports Waiting n line reading reported after bad = (reported ≡ (n, Bad line) ∷ []) × (after ≡ Over) × (bad ≡ true)
 Reports (Running m) n line reads.Skipped reported after bad = (reported ≡ skips n line) × (after ≡ Running m) × (bad ≡ false)
 Reports (Running m) n line (reads.Asks (Does event)) reported after bad =
-    (k : Driven) × (answer : Result Reply Refusal) × Happens m n event answer reported k × (after ≡ Running k) × (bad ≡ false)
-Reports (Running m) n line (reads.Asks (Wake c task now)) reported after bad = (k : Driven) × WakeHappens m n c task now reported k × (after ≡ Running k) × (bad ≡ false)
+    (k : TraceMachine) × (answer : Result Reply Refusal) × Happens m n event answer reported k × (after ≡ Running k) × (bad ≡ false)
+Reports (Running m) n line (reads.Asks (Wake c task now)) reported after bad = (k : TraceMachine) × WakeHappens m n c task now reported k × (after ≡ Running k) × (bad ≡ false)
 Reports (Running m) n line (reads.Asks (Load c hook generation image)) reported after bad =
-    (k : Driven) × LoadHappens m n c hook generation image reported k × (after ≡ Running k) × (bad ≡ false)
+    (k : TraceMachine) × LoadHappens m n c hook generation image reported k × (after ≡ Running k) × (bad ≡ false)
 Reports (Running m) n line (reads.Asks (Counter i)) reported after bad =
     (reported ≡ (if nat_lt i COUNTERS then (n, CounterRead i (slice_index m.counters i)) ∷ [] else (n, Bad line) ∷ [])) × (after ≡ Running m) × (bad ≡ not (nat_lt i COUNTERS))
 Reports (Running m) n line (reads.Asks (Show c)) reported after bad = (reported ≡ (n, ProcessorAsked c m) ∷ []) × (after ≡ Running m) × (bad ≡ false)

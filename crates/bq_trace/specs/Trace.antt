@@ -6,7 +6,7 @@ use Rattle.bq_parts.specs.declared.event.Event.TheVariants.{BeginWake, EndWake}
 use Rattle.bq_parts.specs.declared.reply.Reply.{Reply}
 use Rattle.bq_parts.specs.declared.refusal.Refusal.{Refusal}
 use Rattle.bq_streams.specs.Counts.{one_more}
-use Rattle.bq_trace.specs.Machines.{Driven, opening_machine}
+use Rattle.bq_trace.specs.Machines.{TraceMachine, opening_machine}
 use Rattle.bq_trace.specs.Doing.{DoesAndAnswers}
 use Rattle.bq_trace.specs.Loading.{LoadsAndAnswers}
 use Rattle.bq_streams.specs.Writing.{AppendsPart}
@@ -20,14 +20,14 @@ use Rattle.bq_trace.specs.declared.phase.Phase.TheVariants.{Waiting, Over, Runni
 use Rattle.bq_trace.specs.declared.progress.Progress.{Progress}
 
 -- What follows the begin of a wake: its end, or nothing if the begin was refused.
-abbrev pub EndsWake : Result Reply Refusal → Driven → ℕ → ℕ → List ℕ → Driven → Type 0
+abbrev pub EndsWake : Result Reply Refusal → TraceMachine → ℕ → ℕ → List ℕ → TraceMachine → Type 0
 EndsWake (Err refusal) m c now text n = (text ≡ []) × (n ≡ m)
 EndsWake (Ok begun) m c now text n = (answer : Result Reply Refusal) × DoesAndAnswers m (EndWake c now) answer text n
 
 -- A wake is a begin and what follows the begin; the text answers both.
-pub record AnswersWake (m : Driven) (c task now : ℕ) (text : List ℕ) (n : Driven) : Type 0 where
+pub record AnswersWake (m : TraceMachine) (c task now : ℕ) (text : List ℕ) (n : TraceMachine) : Type 0 where
   pub begun : Result Reply Refusal
-  pub mid : Driven
+  pub mid : TraceMachine
   pub first : List ℕ
   pub more : List ℕ
   pub begins : DoesAndAnswers m (BeginWake c task) begun first mid
@@ -42,9 +42,9 @@ AnswersAtPhase Waiting (Asks (Machine discipline size)) n text after bad = (text
 AnswersAtPhase Waiting reading n text after bad = (text ≡ bad_line n) × (after ≡ Over) × (bad ≡ true)
 AnswersAtPhase (Running m) Skipped n text after bad = (text ≡ []) × (after ≡ Running m) × (bad ≡ false)
 AnswersAtPhase (Running m) (Asks (Does event)) n text after bad =
-    (k : Driven) × (answer : Result Reply Refusal) × DoesAndAnswers m event answer text k × (after ≡ Running k) × (bad ≡ false)
-AnswersAtPhase (Running m) (Asks (Wake c task now)) n text after bad = (k : Driven) × AnswersWake m c task now text k × (after ≡ Running k) × (bad ≡ false)
-AnswersAtPhase (Running m) (Asks (Load c hook generation image)) n text after bad = (k : Driven) × LoadsAndAnswers m c hook generation image text k × (after ≡ Running k) × (bad ≡ false)
+    (k : TraceMachine) × (answer : Result Reply Refusal) × DoesAndAnswers m event answer text k × (after ≡ Running k) × (bad ≡ false)
+AnswersAtPhase (Running m) (Asks (Wake c task now)) n text after bad = (k : TraceMachine) × AnswersWake m c task now text k × (after ≡ Running k) × (bad ≡ false)
+AnswersAtPhase (Running m) (Asks (Load c hook generation image)) n text after bad = (k : TraceMachine) × LoadsAndAnswers m c hook generation image text k × (after ≡ Running k) × (bad ≡ false)
 AnswersAtPhase (Running m) (Asks (Counter i)) n text after bad =
     (text ≡ (if nat_lt i COUNTERS then counter_line i (slice_index m.counters i) else bad_line n)) × (after ≡ Running m) × (bad ≡ not (nat_lt i COUNTERS))
 AnswersAtPhase (Running m) (Asks (Show c)) n text after bad = (text ≡ show_line m.world c) × (after ≡ Running m) × (bad ≡ false)

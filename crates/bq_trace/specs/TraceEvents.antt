@@ -6,7 +6,7 @@ use Rattle.bq_parts.specs.declared.reply.Reply.{Reply}
 use Rattle.bq_parts.specs.declared.refusal.Refusal.{Refusal}
 use Rattle.bq_words.specs.declared.discipline_name.DisciplineName.{DisciplineName}
 use Rattle.bq_words.specs.declared.processor_count.ProcessorCount.{ProcessorCount}
-use Rattle.bq_trace.specs.Machines.{Driven}
+use Rattle.bq_trace.specs.Machines.{TraceMachine}
 use Rattle.bq_trace.specs.Loading.{load_fault_line, no_hex_line}
 use Rattle.bq_trace.specs.Texts.{event_line, bad_line, show_line, counter_line}
 
@@ -17,15 +17,15 @@ pub data TraceEvent : Type 0 where
   -- the line says nothing: it has no words, or is a comment; a line that is too long is Bad, even if it is a comment
   Skipped : List ℕ → TraceEvent
   -- this event is about to be done in the machine
-  Comes : Event → Driven → TraceEvent
+  Comes : Event → TraceMachine → TraceEvent
   -- the event of the last Comes was done or refused, and the machine is the one after the event
-  Answered : Event → Result Reply Refusal → Driven → TraceEvent
+  Answered : Event → Result Reply Refusal → TraceMachine → TraceEvent
   -- the word of an image is not hex
   NotHex : TraceEvent
   -- an image does not load
   NotLoaded : LoadFault → TraceEvent
   -- a processor is asked for, which the machine may not have
-  ProcessorAsked : ℕ → Driven → TraceEvent
+  ProcessorAsked : ℕ → TraceMachine → TraceEvent
   -- a counter has this value
   CounterRead : ℕ → ℕ → TraceEvent
   -- the line is bad: what was kept of it, unless it is too long

@@ -5,7 +5,7 @@ ghost use Rattle.std.specs.Option.{option_map};
 ghost use Rattle.bq_parts.specs.Processors.{Processor};
 ghost use Rattle.bq_trace.specs.Machines.{opening_machine};
 ghost use Rattle.bq_trace.specs.Cores.{processor_in};
-ghost use Rattle.bq_trace.specs.Seeing.{seen_of};
+ghost use Rattle.bq_trace.specs.Cpus.{cpu_of};
 
 use bq_bpf::Plain;
 use bq_bpf::board::COUNTERS;
@@ -50,9 +50,9 @@ impl Drop for AnyCore {
 }
 
 impl Model for AnyCore {
-    ghost use Rattle.bq_trace.specs.Machines.{Driven};
+    ghost use Rattle.bq_trace.specs.Machines.{TraceMachine};
 
-    ghost Value = { Driven };
+    ghost Value = { TraceMachine };
 
     ghost use Rattle.bq_trace.specs.Cores.{machine_of};
 
@@ -61,7 +61,7 @@ impl Model for AnyCore {
 
 impl AnyCore {
     ghost use Rattle.bq_trace.specs.Reporting.{AdvancesMachine};
-    ghost use Rattle.bq_trace.specs.Seeing.{seen_in};
+    ghost use Rattle.bq_trace.specs.Cpus.{cpu_in};
 
     /// A machine to which nothing has happened.
     pub fn new(
@@ -118,15 +118,15 @@ impl AnyCore {
     }
 
     /// A processor as it is now, if the machine has it.
-    pub fn seen(&self, processor: u8) -> Option<AnyCpu<'_>>
-        ensures { option_map seen_of result ≡ seen_in self.now processor }
+    pub fn cpu(&self, processor: u8) -> Option<AnyCpu<'_>>
+        ensures { option_map cpu_of result ≡ cpu_in self.now processor }
     {
         match &self.core {
-            DisciplineCore::Cfs(core) => match cpu(core, processor) {
+            DisciplineCore::Cfs(core) => match find_cpu(core, processor) {
                 Some(cpu) => Some(AnyCpu::Cfs(cpu)),
                 None => None,
             },
-            DisciplineCore::Eevdf(core) => match cpu(core, processor) {
+            DisciplineCore::Eevdf(core) => match find_cpu(core, processor) {
                 Some(cpu) => Some(AnyCpu::Eevdf(cpu)),
                 None => None,
             },
@@ -135,7 +135,7 @@ impl AnyCore {
 }
 
 /// A processor, if the core has it.
-fn cpu<Q: RunQueue>(core: &DynamicCore<Q>, number: u8) -> Option<&Cpu<Q>>
+fn find_cpu<Q: RunQueue>(core: &DynamicCore<Q>, number: u8) -> Option<&Cpu<Q>>
     ensures { option_map (λ (c : Bor Processor). c.now) result ≡ processor_in core.now number }
 {
     if usize::from(number) >= core.processors() {

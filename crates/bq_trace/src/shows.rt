@@ -60,7 +60,7 @@ pub fn write_processor<Q: RunQueue>(
 pub fn write_shown(text: &mut String, processor: u8, machine: &AnyCore) -> Result<(), AllocError>
     ensures { OnOk result (string_bytes text.new ≡ string_bytes text.old ++ show_line machine.now.world processor) }
 {
-    match machine.seen(processor) {
+    match machine.cpu(processor) {
         None => write_refusal(text, Refusal::NoProcessor),
         Some(AnyCpu::Cfs(cpu)) => write_processor(text, processor, cpu),
         Some(AnyCpu::Eevdf(cpu)) => write_processor(text, processor, cpu),

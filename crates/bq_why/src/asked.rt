@@ -25,7 +25,7 @@ impl Asked {
 
     /// The value if the policy at a hook of a processor took this many steps.
     pub fn at(machine: &AnyCore, processor: u8, hook: Hook, steps: u32) -> Asked {
-        let answer = match machine.seen(processor) {
+        let answer = match machine.cpu(processor) {
             Some(AnyCpu::Cfs(cpu)) => answer(cpu, hook, steps),
             Some(AnyCpu::Eevdf(cpu)) => answer(cpu, hook, steps),
             None => None,

@@ -38,7 +38,7 @@ pub(crate) fn write_choice(
     choice: &RunChoice,
 ) -> Result<(), AllocError> {
     let discipline = machine.discipline();
-    let (mark, tasks) = match machine.seen(choice.processor) {
+    let (mark, tasks) = match machine.cpu(choice.processor) {
         Some(AnyCpu::Cfs(cpu)) => (cpu.mark(), present(alloc, cpu)?),
         Some(AnyCpu::Eevdf(cpu)) => (cpu.mark(), present(alloc, cpu)?),
         None => return Ok(()),

@@ -61,7 +61,7 @@ pub(crate) fn pull_facts_in(
     if puller >= PROCESSORS {
         return Ok(None);
     }
-    let facts = match (machine.seen(puller), machine.seen(other)) {
+    let facts = match (machine.cpu(puller), machine.cpu(other)) {
         (Some(AnyCpu::Cfs(here)), Some(AnyCpu::Cfs(there))) => {
             pull_facts_between(alloc, puller, other, here, there)?
         }

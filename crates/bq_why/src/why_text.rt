@@ -59,7 +59,7 @@ pub fn processor_and_time(event: &Event) -> Option<(u8, u64)>
 
 /// The running task of a processor, if one runs.
 fn running(machine: &AnyCore, processor: u8) -> Option<u16> {
-    match machine.seen(processor) {
+    match machine.cpu(processor) {
         Some(AnyCpu::Cfs(cpu)) => cpu.running_id(),
         Some(AnyCpu::Eevdf(cpu)) => cpu.running_id(),
         None => None,
