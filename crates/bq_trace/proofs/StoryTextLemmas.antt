@@ -21,7 +21,7 @@ use Rattle.bq_trace.specs.Writing.{GrowsByPiece}
 use Rattle.bq_trace.specs.TraceEvents.{Reported, CounterRead, Bad, Gets, text_of, texts}
 use Rattle.bq_trace.specs.Reporting.{Happens, EndHappens, WakeHappens, LoadHappens, Reports, ReportsLine, Story, ReportsPiece, skips}
 use Rattle.bq_trace.specs.declared.phase.Phase.{Phase}
-use Rattle.bq_trace.specs.declared.phase.Phase.TheVariants.{Waiting, Over, Running}
+use Rattle.bq_trace.specs.declared.phase.Phase.TheVariants.{Waiting, Abandoned, Running}
 use Rattle.bq_trace.specs.declared.progress.Progress.{Progress}
 use Rattle.bq_trace.specs.declared.trace_position.TracePosition.{TracePosition}
 use Rattle.bq_trace.proofs.TakingLemmas.{texts-append, added_by}
@@ -80,7 +80,7 @@ counter_text n i value line false = append-nil (bad_line n)
 pub reports_text : (p : Phase) (n : ℕ) (line : Option (List ℕ)) (r : LineReading) (reported : Reported)
     (q : Phase) (bad : Bool)
     → Reports p n line r reported q bad → AnswersAtPhase p r n (texts reported) q bad
-reports_text Over n line r reported q bad h = (ap texts h.0, h.1, h.2)
+reports_text Abandoned n line r reported q bad h = (ap texts h.0, h.1, h.2)
 reports_text Waiting n line reads.Skipped reported q bad h = (ap texts h.0 ∙ skips_text n line, h.1, h.2)
 reports_text Waiting n line reads.Bad reported q bad h = (bad_text n line reported h.0, h.1, h.2)
 reports_text Waiting n line (reads.Asks (Machine discipline size)) reported q bad h = (ap texts h.0, h.1, h.2)

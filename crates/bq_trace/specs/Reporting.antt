@@ -27,7 +27,7 @@ use Rattle.bq_trace.specs.Machines.{TraceMachine, opening_machine, semantics_of,
 use Rattle.bq_trace.specs.TraceEvents.{Reported, Opened, Skipped, Comes, Answered, NotHex, NotLoaded, ProcessorAsked, CounterRead, Bad}
 use Rattle.bq_trace.specs.declared.loading.Installation.{Installation}
 use Rattle.bq_trace.specs.declared.phase.Phase.{Phase}
-use Rattle.bq_trace.specs.declared.phase.Phase.TheVariants.{Waiting, Over, Running}
+use Rattle.bq_trace.specs.declared.phase.Phase.TheVariants.{Waiting, Abandoned, Running}
 use Rattle.bq_trace.specs.declared.progress.Progress.{Progress}
 use Rattle.bq_trace.specs.declared.trace_position.TracePosition.{TracePosition}
 
@@ -77,11 +77,11 @@ skips n (Some line) = (n, Skipped line) ∷ []
 
 -- What line n does in a phase, by what was kept of the line and what it says: the report, the next phase, and whether it is bad.
 abbrev pub Reports : Phase → ℕ → Option (List ℕ) → LineReading → Reported → Phase → Bool → Type 0
-Reports Over n line reading reported after bad = (reported ≡ []) × (after ≡ Over) × (bad ≡ false)
+Reports Abandoned n line reading reported after bad = (reported ≡ []) × (after ≡ Abandoned) × (bad ≡ false)
 Reports Waiting n line reads.Skipped reported after bad = (reported ≡ skips n line) × (after ≡ Waiting) × (bad ≡ false)
 Reports Waiting n line (reads.Asks (Machine discipline size)) reported after bad =
     (reported ≡ (n, Opened discipline size) ∷ []) × (after ≡ Running (opening_machine discipline size)) × (bad ≡ false)
-Reports Waiting n line reading reported after bad = (reported ≡ (n, Bad line) ∷ []) × (after ≡ Over) × (bad ≡ true)
+Reports Waiting n line reading reported after bad = (reported ≡ (n, Bad line) ∷ []) × (after ≡ Abandoned) × (bad ≡ true)
 Reports (Running m) n line reads.Skipped reported after bad = (reported ≡ skips n line) × (after ≡ Running m) × (bad ≡ false)
 Reports (Running m) n line (reads.Asks (Does event)) reported after bad =
     (k : TraceMachine) × (answer : Result Reply Refusal) × Happens m n event answer reported k × (after ≡ Running k) × (bad ≡ false)

@@ -16,7 +16,7 @@ use Rattle.bq_lines.specs.declared.command.LineCommand.TheVariants.{Machine, Doe
 use Rattle.bq_lines.specs.declared.command.LineReading.{LineReading}
 use Rattle.bq_lines.specs.declared.command.LineReading.TheVariants.{Skipped, Bad, Asks}
 use Rattle.bq_trace.specs.declared.phase.Phase.{Phase}
-use Rattle.bq_trace.specs.declared.phase.Phase.TheVariants.{Waiting, Over, Running}
+use Rattle.bq_trace.specs.declared.phase.Phase.TheVariants.{Waiting, Abandoned, Running}
 use Rattle.bq_trace.specs.declared.progress.Progress.{Progress}
 
 -- What follows the begin of a wake: its end, or nothing if the begin was refused.
@@ -36,10 +36,10 @@ pub record AnswersWake (m : TraceMachine) (c task now : ℕ) (text : List ℕ) (
 
 -- The answer to the line of this number in a phase, the phase after it, and whether the line was called bad.
 abbrev pub AnswersAtPhase : Phase → LineReading → ℕ → List ℕ → Phase → Bool → Type 0
-AnswersAtPhase Over reading n text after bad = (text ≡ []) × (after ≡ Over) × (bad ≡ false)
+AnswersAtPhase Abandoned reading n text after bad = (text ≡ []) × (after ≡ Abandoned) × (bad ≡ false)
 AnswersAtPhase Waiting Skipped n text after bad = (text ≡ []) × (after ≡ Waiting) × (bad ≡ false)
 AnswersAtPhase Waiting (Asks (Machine discipline size)) n text after bad = (text ≡ []) × (after ≡ Running (opening_machine discipline size)) × (bad ≡ false)
-AnswersAtPhase Waiting reading n text after bad = (text ≡ bad_line n) × (after ≡ Over) × (bad ≡ true)
+AnswersAtPhase Waiting reading n text after bad = (text ≡ bad_line n) × (after ≡ Abandoned) × (bad ≡ true)
 AnswersAtPhase (Running m) Skipped n text after bad = (text ≡ []) × (after ≡ Running m) × (bad ≡ false)
 AnswersAtPhase (Running m) (Asks (Does event)) n text after bad =
     (k : TraceMachine) × (answer : Result Reply Refusal) × DoesAndAnswers m event answer text k × (after ≡ Running k) × (bad ≡ false)

@@ -18,7 +18,7 @@ pub enum Phase {
     /// No machine line has come yet.
     Waiting,
     /// The first line that says something was no machine line. The trace does nothing any more.
-    Over,
+    Abandoned,
     /// The machine, after the events so far.
     Running(AnyCore),
 }
@@ -53,7 +53,7 @@ impl Phase {
                 Ok(false)
             }
             _ => {
-                *self = Phase::Over;
+                *self = Phase::Abandoned;
                 report_bad(number, line, sink)
             }
         }
@@ -71,7 +71,7 @@ impl Phase {
             (λ reported. Reports self.old number (optional_bytes line.entry) (reading_of_short_line (optional_bytes line.entry)) reported self.new bad)) }
     {
         match self {
-            Phase::Over => Ok(false),
+            Phase::Abandoned => Ok(false),
             Phase::Waiting => self.begin(alloc, number, line, &read_short_line(line), sink),
             Phase::Running(machine) => machine.obey(
                 alloc,
