@@ -44,7 +44,7 @@ impl Gatherer {
 impl Sink for Gatherer {
     ghost takes = { λ old n traced new. (new.schedule ≡ watched old.schedule traced) × TakesStart (reported_start traced old.schedule) old.latencies new.latencies };
 
-    fn take(&mut self, _number: u64, event: &TraceEvent<'_>) -> Result<(), AllocError> {
+    fn receive(&mut self, _number: u64, event: &TraceEvent<'_>) -> Result<(), AllocError> {
         match event {
             TraceEvent::Opened { size, .. } => {
                 self.schedule = Some(Schedule::new(self.alloc, size.processors())?);

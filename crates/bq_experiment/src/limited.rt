@@ -65,11 +65,11 @@ impl<S> Enough for Limited<S> {
 impl<S: Sink> Sink for Limited<S> {
     ghost takes = { PassesWithin S.takes };
 
-    fn take(&mut self, number: u64, event: &TraceEvent<'_>) -> Result<(), AllocError> {
+    fn receive(&mut self, number: u64, event: &TraceEvent<'_>) -> Result<(), AllocError> {
         self.count(event);
         if self.is_over {
             return Ok(());
         }
-        self.sink.take(number, event)
+        self.sink.receive(number, event)
     }
 }

@@ -59,7 +59,7 @@ pub fn report_names<S: Sink>(
         let name = plain(alloc, name.as_str())?;
         let comment = format!(in alloc; "# task {task} {name}")?;
         let line = comment.as_bytes();
-        sink.take(0, &TraceEvent::Skipped { line })?;
+        sink.receive(0, &TraceEvent::Skipped { line })?;
     }
     Ok(names.len() as u64)
 }
@@ -78,7 +78,7 @@ pub(crate) fn show_names(
     let comments = shown_comments(alloc, workload)?;
     'comments: for comment in &comments {
         let line = comment.as_bytes();
-        viewer.take(0, &TraceEvent::Skipped { line })?;
+        viewer.receive(0, &TraceEvent::Skipped { line })?;
     }
     Ok(comments.len() as u64)
 }

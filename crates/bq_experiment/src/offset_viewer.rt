@@ -17,7 +17,8 @@ pub struct OffsetViewer {
 impl Sink for OffsetViewer {
     ghost takes = { λ old n traced new. (new.offset ≡ old.offset) × TakesEvent old.viewer traced new.viewer };
 
-    fn take(&mut self, number: u64, event: &TraceEvent<'_>) -> Result<(), AllocError> {
-        self.viewer.take(number.saturating_add(self.offset), event)
+    fn receive(&mut self, number: u64, event: &TraceEvent<'_>) -> Result<(), AllocError> {
+        self.viewer
+            .receive(number.saturating_add(self.offset), event)
     }
 }

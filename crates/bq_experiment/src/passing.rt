@@ -12,7 +12,7 @@ use std::alloc::AllocError;
 use std::io::Write;
 
 /// A sink, with the writers of its text and notes. Both are written once the text has a piece's length, or there is a note; notes
-/// first. If a write of the text fails, `take` fails.
+/// first. If a write of the text fails, `receive` fails.
 #[derive(Drop)]
 pub struct Passing<'a, S, W, E> {
     pub sink: S,
@@ -102,11 +102,11 @@ impl<S: Texts, W: Write, E: Write> Passing<'_, S, W, E> {
 impl<S: Sink + Texts, W: Write, E: Write> Sink for Passing<'_, S, W, E> {
     ghost takes = { λ old n traced new. TakesAndPasses S.takes S.pending S.clears old.sink (W.contents (counted_inner old.output)) n traced new.sink (W.contents (counted_inner new.output)) };
 
-    fn take(&mut self, number: u64, event: &TraceEvent<'_>) -> Result<(), AllocError> {
+    fn receive(&mut self, number: u64, event: &TraceEvent<'_>) -> Result<(), AllocError> {
         if let TraceEvent::Comes { event, .. } = event {
             self.progress.count(event);
         }
-        self.sink.take(number, event)?;
+        self.sink.receive(number, event)?;
         self.pass_on()
     }
 }

@@ -31,7 +31,7 @@ impl Driver {
         ensures fault { IfErr result (λ fault. fault ≡ OutOfMemory) }
     {
         let machine = AnyCore::new(alloc, discipline, size)?;
-        sink.take(1, &TraceEvent::Opened { discipline, size })?;
+        sink.receive(1, &TraceEvent::Opened { discipline, size })?;
         Ok(Driver {
             machine,
             line: 1,
@@ -58,14 +58,14 @@ impl Driver {
             event: &reported,
             machine: &self.machine,
         };
-        sink.take(self.line, &coming)?;
+        sink.receive(self.line, &coming)?;
         let answer = self.machine.step(alloc, event);
         let answered = TraceEvent::Answered {
             event: &reported,
             answer: &answer,
             machine: &self.machine,
         };
-        sink.take(self.line, &answered)?;
+        sink.receive(self.line, &answered)?;
         match answer {
             Ok(reply) => Ok(reply),
             Err(Refusal::OutOfMemory) => Err(DriveFault::OutOfMemory),

@@ -45,7 +45,7 @@ impl<'a> TraceWriter<'a> {
 impl Sink for TraceWriter<'_> {
     ghost takes = { λ old n traced new. (new.images ≡ old.images) × WritesEvent (image_at old.images) (string_bytes old.text) traced (string_bytes new.text) };
 
-    fn take(&mut self, _number: u64, event: &TraceEvent<'_>) -> Result<(), AllocError> {
+    fn receive(&mut self, _number: u64, event: &TraceEvent<'_>) -> Result<(), AllocError> {
         match event {
             TraceEvent::Opened { discipline, size } => {
                 write_machine(&mut self.text, *discipline, *size)

@@ -138,7 +138,7 @@ impl Viewer {
 impl Sink for Viewer {
     ghost takes = { λ old n traced new. TakesEvent old traced new };
 
-    fn take(&mut self, number: u64, event: &TraceEvent<'_>) -> Result<(), AllocError>
+    fn receive(&mut self, number: u64, event: &TraceEvent<'_>) -> Result<(), AllocError>
         ensures taken { OnOk result (TakesEvent self.old (event_of event.now) self.new) }
 
         // A comment changes only the names, even if memory runs out.

@@ -35,7 +35,7 @@ impl AnyCore {
             event: &reported,
             machine: self,
         };
-        sink.take(number, &coming)?;
+        sink.receive(number, &coming)?;
         let answer = self.step(alloc, event);
         if is_out_of_memory(&answer) {
             return Err(AllocError);
@@ -45,7 +45,7 @@ impl AnyCore {
             answer: &answer,
             machine: self,
         };
-        sink.take(number, &answered)?;
+        sink.receive(number, &answered)?;
         Ok(answer.is_ok())
     }
 

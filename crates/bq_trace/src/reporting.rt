@@ -12,7 +12,7 @@ use std::alloc::AllocError;
 pub fn report<S: Sink>(number: u64, event: &TraceEvent<'_>, sink: &mut S) -> Result<(), AllocError>
     ensures { OnOk result (Gets S.takes sink.old sink.new (λ reported. reported ≡ (number, event_of event.now) ∷ [])) }
 {
-    sink.take(number, event)
+    sink.receive(number, event)
 }
 
 /// Reports a line that says nothing. Returns false: such a line is not bad. `line` is `None` only for a line that is too long. Such a
@@ -25,7 +25,7 @@ pub fn report_skipped<S: Sink>(
     ensures { IfOk result (λ bad. (bad ≡ false) × Gets S.takes sink.old sink.new (λ reported. reported ≡ skips number (optional_bytes line.entry))) }
 {
     if let Some(line) = line {
-        sink.take(number, &TraceEvent::Skipped { line })?;
+        sink.receive(number, &TraceEvent::Skipped { line })?;
     }
     Ok(false)
 }
@@ -38,6 +38,6 @@ pub fn report_bad<S: Sink>(
 ) -> Result<bool, AllocError>
     ensures { IfOk result (λ bad. (bad ≡ true) × Gets S.takes sink.old sink.new (λ reported. reported ≡ (number, Bad (optional_bytes line.entry)) ∷ [])) }
 {
-    sink.take(number, &TraceEvent::Bad { line })?;
+    sink.receive(number, &TraceEvent::Bad { line })?;
     Ok(true)
 }

@@ -1,4 +1,4 @@
-//! A sink takes the events of a trace, one by one. The text that answers a trace is a sink.
+//! A sink receives the events of a trace, one by one. The text that answers a trace is a sink.
 ghost use Rattle.std.specs.Prelude.{◌≡◌, ◌++◌, ℕ, OnOk, string_bytes};
 ghost use Rattle.bq_trace.specs.TraceEvents.{TraceEvent as Traced, text_of};
 ghost use Rattle.bq_trace.specs.Borrowed.{event_of};
@@ -9,15 +9,15 @@ use crate::texts::{write_answer, write_bad, write_counter};
 use crate::trace_event::TraceEvent;
 use std::alloc::AllocError;
 
-/// Takes the events of a trace, in order.
+/// Receives the events of a trace, in order.
 ///
-/// A `String` is a sink: it takes the lines that answer a trace.
+/// A `String` is a sink: it receives the lines that answer a trace.
 pub trait Sink {
     /// How an event with the number of its line changes the sink: the sink before and after.
     ghost takes: { Self → ℕ → Traced → Self → Type 0 };
 
-    /// Takes an event. `number` is the number of its line, from 1. It is 0 for a comment that a simulation puts above the trace.
-    fn take(&mut self, number: u64, event: &TraceEvent<'_>) -> Result<(), AllocError>
+    /// Receives an event. `number` is the number of its line, from 1. It is 0 for a comment that a simulation puts above the trace.
+    fn receive(&mut self, number: u64, event: &TraceEvent<'_>) -> Result<(), AllocError>
         ensures { OnOk result (takes self.old number (event_of event.now) self.new) };
 }
 
@@ -26,7 +26,7 @@ impl Sink for String {
 
     // Inlined, so that no event is built that nothing reads.
     #[inline(always)]
-    fn take(&mut self, number: u64, event: &TraceEvent<'_>) -> Result<(), AllocError> {
+    fn receive(&mut self, number: u64, event: &TraceEvent<'_>) -> Result<(), AllocError> {
         match event {
             TraceEvent::Opened { .. } | TraceEvent::Skipped { .. } | TraceEvent::Comes { .. } => {
                 Ok(())

@@ -19,10 +19,10 @@ names-preserved g c =
     c.as_bytes-line.ensures.value ∙ c.in_ok-comment.ensures.ok
     ∙ ap (λ (n : List ℕ). codes "# task " ++ (decimal task ++ (codes " " ++ n))) plain in
     let taken =
-    TakesAll-append takes c.args.sink.now c.names.sink c.take.new.self
+    TakesAll-append takes c.args.sink.now c.names.sink c.receive.new.self
     (map skipped (comments_from 0 (map string_bytes (take task all)))) (skipped c.as_bytes-line.result.now ∷ [])
-    c.names.invariant (c.take.new.self, c.in_ok-take.ensures, refl) in
-    subst (λ (reported : Reported). TakesAll takes c.args.sink.now reported c.take.new.self)
+    c.names.invariant (c.receive.new.self, c.in_ok-receive.ensures, refl) in
+    subst (λ (reported : Reported). TakesAll takes c.args.sink.now reported c.receive.new.self)
     (reported-more all task name c.as_bytes-line.result.now c.names-test.true line) taken
 
 pub returns-clause-reported : goal.returns-clause-reported

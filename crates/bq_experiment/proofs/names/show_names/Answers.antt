@@ -13,13 +13,13 @@ comments-preserved c =
     let comment = c.comment-item.result in
     let old = c.args.viewer.now.screen.names in
     let mid = c.comments.viewer.screen.names in
-    let new = c.take.new.self.screen.names in
+    let new = c.receive.new.self.screen.names in
     let line : c.as_bytes-line.result.now ≡ string_bytes (get_or all i comment) =
     c.as_bytes-line.ensures.value ∙ ap (λ (s : String Global). string_bytes s) c.comment-item.is in
     let learnt : Learns (string_bytes (get_or all i comment)) mid new =
-    subst (λ (l : List ℕ). Learns l mid new) line c.in_ok-take.ensures.short_line in
+    subst (λ (l : List ℕ). Learns l mid new) line c.in_ok-receive.ensures.short_line in
     record {
-      rest = rests_on c.args.viewer.now c.comments.viewer c.take.new.self c.comments.invariant.rest (c.take.ensures.unchanged tt);
+      rest = rests_on c.args.viewer.now c.comments.viewer c.receive.new.self c.comments.invariant.rest (c.receive.ensures.unchanged tt);
       names = subst (λ (lines : List (List ℕ)). LearnsAll lines old new) (sym (map_more string_bytes all i comment c.comments-test.true))
           (learns_more (map string_bytes (take i all)) (string_bytes (get_or all i comment)) old mid new c.comments.invariant.names learnt);
     }

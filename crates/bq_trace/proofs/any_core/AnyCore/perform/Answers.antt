@@ -12,14 +12,14 @@ returns g c =
     let answer = c.step-answer.result in
     let apart : answer ≢ Err no.OutOfMemory = search rules in
     let comes =
-    subst (λ e. takes c.args.sink.now n (Comes e c.args.self.now) c.take.new.self) c.without_policy-reported.ensures
-    c.in_ok-take.ensures in
+    subst (λ e. takes c.args.sink.now n (Comes e c.args.self.now) c.receive.new.self) c.without_policy-reported.ensures
+    c.in_ok-receive.ensures in
     let answered =
-    subst (λ e. takes c.take.new.self n (Answered e answer c.step-answer.new.self) c.take-2.new.self)
-    c.without_policy-reported.ensures c.in_ok-take-2.ensures in (
+    subst (λ e. takes c.receive.new.self n (Answered e answer c.step-answer.new.self) c.receive-2.new.self)
+    c.without_policy-reported.ensures c.in_ok-receive-2.ensures in (
       answer,
       sym c.is_ok.ensures.value,
-      gets_two takes c.args.sink.now c.take.new.self c.take-2.new.self n _ _
+      gets_two takes c.args.sink.now c.receive.new.self c.receive-2.new.self n _ _
           (λ reported. Happens c.args.self.now n c.args.event answer reported c.step-answer.new.self) comes answered
           (record { answered = apart; moves = c.step-answer.ensures; reports = refl }),
     )

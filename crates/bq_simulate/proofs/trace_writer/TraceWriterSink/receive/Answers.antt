@@ -5,7 +5,7 @@ use Rattle.std.proofs.lemmas.Result.{on_ok_weaker}
 use Rattle.bq_trace.specs.Borrowed.{event_of}
 use Rattle.bq_simulate.specs.Texts.{WritesEvent, image_at}
 use Rattle.bq_simulate.proofs.TextLemmas.{writes_line, writes_none}
-use Rattle.bq_simulate.proofs.trace_writer.TraceWriterSink.take.Goals as goal
+use Rattle.bq_simulate.proofs.trace_writer.TraceWriterSink.receive.Goals as goal
 
 pub returns-in-Ok : goal.returns-in-Ok
 returns-in-Ok c =

@@ -1,7 +1,0 @@
-use Rattle.bq_experiment.proofs.PassingLemmas.{OnOk-passed}
-use Rattle.bq_experiment.proofs.passing.PassingSink.take.Goals as goal
-
-pub returns : goal.returns
-returns g c =
-    OnOk-passed g.S.Sink.takes g.S.Texts.pending g.S.Texts.clears _ c.take.new.self _ _ _ _ _ c.pass_on.result
-    c.in_ok-take.ensures c.pass_on.ensures
