@@ -30,8 +30,8 @@ use Rattle.bq_trace.proofs.TakingLemmas.{texts-append, added_by}
 pub happens_text : (m k : TraceMachine) (n : ℕ) (event : Event) (answer : Result Reply Refusal) (reported : Reported)
     → Happens m n event answer reported k → DoesAndAnswers m event answer (texts reported) k
 happens_text m k n event answer reported h = record {
-  same_discipline = h.moves.same_discipline;
-  step = record { calls = h.moves.step.calls; step = h.moves.step.step; through = h.moves.step.through; answered = h.answered };
+  answered = h.answered;
+  moves = h.moves;
   line = ap texts h.reports ∙ append-nil (event_line answer);
 }
 

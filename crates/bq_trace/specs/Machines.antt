@@ -1,5 +1,5 @@
 -- The machine that a trace drives: its discipline, its world, and the counters that its policies share.
-use Rattle.std.specs.Prelude.{◌≢◌, ℕ, List, replicate, Result, Err}
+use Rattle.std.specs.Prelude.{◌≡◌, ℕ, List, replicate, Result}
 use Rattle.bq_disc.specs.Discipline.{Discipline}
 use Rattle.bq_cfs.specs.Cfs.{cfs}
 use Rattle.bq_eevdf.specs.Eevdf.{eevdf}
@@ -12,7 +12,6 @@ use Rattle.bq_parts.specs.Steps.{WorldStep}
 use Rattle.bq_parts.specs.declared.event.Event.{Event}
 use Rattle.bq_parts.specs.declared.reply.Reply.{Reply}
 use Rattle.bq_parts.specs.declared.refusal.Refusal.{Refusal}
-use Rattle.bq_parts.specs.declared.refusal.Refusal.TheVariants.{OutOfMemory}
 use Rattle.bq_words.specs.declared.discipline_name.DisciplineName.{DisciplineName}
 use Rattle.bq_words.specs.declared.discipline_name.DisciplineName.TheVariants.{Cfs, Eevdf}
 use Rattle.bq_words.specs.declared.processor_count.ProcessorCount.{ProcessorCount}
@@ -43,10 +42,7 @@ pub record Advances (s : PolicySemantics) (w : World) (old : List ℕ) (event : 
   pub step : WorldStep s w event calls answer v
   pub through : Through Counts old calls new
 
--- One event is a step of a world, the policies' calls lead from the old counters to the new ones, and the answer is not lack
--- of memory.
-pub record StepsWorld (s : PolicySemantics) (w : World) (old : List ℕ) (event : Event) (answer : Result Reply Refusal) (v : World) (new : List ℕ) : Type 0 where
-  pub calls : List CounterCall
-  pub step : WorldStep s w event calls answer v
-  pub through : Through Counts old calls new
-  pub answered : answer ≢ Err OutOfMemory
+-- An event is done in the machine's world, under the machine's discipline.
+pub record AdvancesMachine (m : TraceMachine) (event : Event) (answer : Result Reply Refusal) (k : TraceMachine) : Type 0 where
+  pub same_discipline : k.discipline ≡ m.discipline
+  pub step : Advances (semantics_of m.discipline) m.world m.counters event answer k.world k.counters

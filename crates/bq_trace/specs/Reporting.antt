@@ -23,18 +23,13 @@ use Rattle.bq_lines.specs.declared.command.LineReading.TheVariants as reads
 use Rattle.bq_parts.specs.Events.{without_policy}
 use Rattle.bq_streams.specs.Counts.{one_more}
 use Rattle.bq_trace.specs.Feeding.{with_feeds}
-use Rattle.bq_trace.specs.Machines.{TraceMachine, opening_machine, semantics_of, Advances}
+use Rattle.bq_trace.specs.Machines.{TraceMachine, AdvancesMachine, opening_machine}
 use Rattle.bq_trace.specs.TraceEvents.{Reported, Opened, Skipped, Comes, Answered, NotHex, NotLoaded, ProcessorAsked, CounterRead, Bad}
 use Rattle.bq_trace.specs.declared.loading.Installation.{Installation}
 use Rattle.bq_trace.specs.declared.phase.Phase.{Phase}
 use Rattle.bq_trace.specs.declared.phase.Phase.TheVariants.{Waiting, Abandoned, Running}
 use Rattle.bq_trace.specs.declared.progress.Progress.{Progress}
 use Rattle.bq_trace.specs.declared.trace_position.TracePosition.{TracePosition}
-
--- An event is done in the machine's world, under the machine's discipline.
-pub record AdvancesMachine (m : TraceMachine) (event : Event) (answer : Result Reply Refusal) (k : TraceMachine) : Type 0 where
-  pub same_discipline : k.discipline ≡ m.discipline
-  pub step : Advances (semantics_of m.discipline) m.world m.counters event answer k.world k.counters
 
 -- Line n brings an event, which is reported before it is done, and with its answer after. The reports leave out the policy that
 -- it brings. Lack of memory is no answer.
@@ -58,13 +53,25 @@ pub record WakeHappens (m : TraceMachine) (n c task now : ℕ) (reported : Repor
   pub ends : EndHappens begun mid n c now more k
   pub whole : reported ≡ first ++ more
 
+-- the word of an image is not hex: that is reported, and the machine stays as it is
+abbrev pub HexRefusalHappens : TraceMachine → ℕ → List ℕ → Reported → TraceMachine → Type 0
+HexRefusalHappens m n image reported k = (error : FromHexError) × (decode_of image ≡ Err error) × (reported ≡ (n, NotHex) ∷ []) × (k ≡ m)
+
+-- the word spells bytes that do not load: that is reported, and the machine stays as it is
+abbrev pub ImageRefusalHappens : TraceMachine → ℕ → List ℕ → Reported → TraceMachine → Type 0
+ImageRefusalHappens m n image reported k =
+    (bytes : List ℕ) × (why : LoadFault) × (decode_of image ≡ Ok bytes) × IsUnloaded bytes why × (why ≢ fault.OutOfMemory) × (reported ≡ (n, NotLoaded why) ∷ []) × (k ≡ m)
+
+-- the word spells the image of a program that is accepted, and its policy is installed as an event
+abbrev pub InstallHappens : TraceMachine → ℕ → ℕ → Hook → ℕ → List ℕ → Reported → TraceMachine → Type 0
+InstallHappens m n c hook generation image reported k =
+    (bytes : List ℕ) × (policy : Accepted) × (answer : Result Reply Refusal) × (decode_of image ≡ Ok bytes) × Loads bytes policy
+    × Happens m n (Install c hook generation (Some policy)) answer reported k
+
 -- An image is refused and nothing happens, or its policy is installed as an event. Either is reported.
 abbrev pub LoadHappens : TraceMachine → ℕ → ℕ → Hook → ℕ → List ℕ → Reported → TraceMachine → Type 0
 LoadHappens m n c hook generation image reported k =
-    ((error : FromHexError) × (decode_of image ≡ Err error) × (reported ≡ (n, NotHex) ∷ []) × (k ≡ m))
-    ⊎ (((bytes : List ℕ) × (why : LoadFault) × (decode_of image ≡ Ok bytes) × IsUnloaded bytes why × (why ≢ fault.OutOfMemory) × (reported ≡ (n, NotLoaded why) ∷ []) × (k ≡ m))
-    ⊎ ((bytes : List ℕ) × (policy : Accepted) × (answer : Result Reply Refusal) × (decode_of image ≡ Ok bytes) × Loads bytes policy
-    × Happens m n (Install c hook generation (Some policy)) answer reported k))
+    HexRefusalHappens m n image reported k ⊎ (ImageRefusalHappens m n image reported k ⊎ InstallHappens m n c hook generation image reported k)
 
 -- `LoadHappens`, as an installation asks for it.
 abbrev pub InstallationHappens : TraceMachine → ℕ → Installation → Reported → TraceMachine → Type 0

@@ -60,7 +60,7 @@ impl Model for AnyCore {
 }
 
 impl AnyCore {
-    ghost use Rattle.bq_trace.specs.Reporting.{AdvancesMachine};
+    ghost use Rattle.bq_trace.specs.Machines.{AdvancesMachine};
     ghost use Rattle.bq_trace.specs.Cpus.{cpu_in};
 
     /// A machine to which nothing has happened.
