@@ -25,7 +25,7 @@ pub struct Bounds {
 }
 
 impl Bounds {
-    /// Bounds of this many processors, before the first event.
+    /// Returns the bounds of this many processors before the first event. `AllocError` if there is no memory for them.
     pub fn new(
         alloc: Global,
         discipline: DisciplineName,
@@ -44,8 +44,8 @@ impl Bounds {
         })
     }
 
-    /// An event of a processor was answered, and its clock rose by `rise` ns. `running` is its running task before the event, `mean` its mean
-    /// now.
+    /// Takes an answered event of a processor, whose clock rose by `rise` ns with it, and measures the charge. `running` is the running task
+    /// before the event, and `mean` the mean of the processor's tasks now.
     pub fn take(
         &mut self,
         processor: u8,
@@ -65,7 +65,7 @@ impl Bounds {
         self.disturb_source(event, reply);
     }
 
-    /// Under EEVDF a pull takes a task away from another processor, and disturbs what is measured there.
+    /// Disturbs, under EEVDF, what is measured at the processor that a pull takes a task from.
     fn disturb_source(&mut self, event: &Event, reply: &Reply)
         ensures discipline { self.new.discipline ≡ self.old.discipline }
         ensures watches { self.new.watches.items ≡ source_disturbed self.old.discipline event.now reply.now self.old.watches.items }
@@ -95,7 +95,8 @@ impl Bounds {
         }
     }
 
-    /// Under EEVDF: an event of a processor was answered, and its clock rose by `rise` ns. `tasks` are its tasks now.
+    /// Takes an answered event of a processor under EEVDF, whose clock rose by `rise` ns with it, and measures what its tasks are owed. `tasks`
+    /// are the processor's tasks now.
     pub fn owe(&mut self, processor: u8, event: &Event, reply: &Reply, rise: u64, tasks: &[Entity])
         requires { length tasks.now ≤ TASKS }
         ensures discipline { self.new.discipline ≡ self.old.discipline }
@@ -134,7 +135,7 @@ impl Bounds {
         true
     }
 
-    /// A pull takes a task away from another processor, whose stretch ends there.
+    /// Ends the stretch of the processor that a pull takes a task from.
     fn forget_source(&mut self, event: &Event, reply: &Reply)
         ensures discipline { self.new.discipline ≡ self.old.discipline }
         ensures watches { self.new.watches ≡ self.old.watches }
@@ -160,14 +161,14 @@ impl Bounds {
         }
     }
 
-    /// What was watched at a processor. `None` if the machine does not have it.
+    /// Returns what was watched at a processor. `None` if the machine does not have this processor.
     pub fn watch(&self, number: u8) -> Option<Watch>
         ensures { result ≡ slice_get self.now.watches.items number }
     {
         self.watches.get(usize::from(number)).copied()
     }
 
-    /// What the tasks of a processor were owed. `None` if the machine does not have it.
+    /// Returns what the tasks of a processor were owed. `None` if the machine does not have this processor.
     pub fn lags(&self, number: u8) -> Option<Lags>
         ensures { result ≡ slice_get self.now.lags.items number }
     {

@@ -17,8 +17,9 @@ pub struct Charge {
 }
 
 impl RunningTask {
-    /// The charge for a rise of the clock. `since` is how far the clock has risen since the discipline decided who runs. CFS measures
-    /// from the least virtual runtime that waits, and answers `None` if no task waits. EEVDF measures from the mean after the charge.
+    /// Measures the charge for a rise of the clock. `since` is how far the clock has risen since the discipline decided who runs; both
+    /// are in nanoseconds. CFS measures from the least virtual runtime that waits: `None` if no task waits. EEVDF measures from the
+    /// mean after the charge.
     pub fn charge(
         &self,
         discipline: DisciplineName,
@@ -37,7 +38,7 @@ impl RunningTask {
         }
     }
 
-    /// The charge, measured from `base`. It may be `allowance` and the virtual time of the rise since the decision.
+    /// Measures the charge from `base`. Its bound is `allowance` and the virtual time of the rise since the decision.
     fn charge_from(&self, base: u64, allowance: u64, rise: u64, since: u64) -> Charge
         ensures { result ≡ charge_from base allowance self.now.v self.now.weight rise since }
     {
@@ -51,7 +52,7 @@ impl RunningTask {
     }
 }
 
-/// The virtual time of a time at a weight, at most the type's greatest number.
+/// Converts nanoseconds to virtual nanoseconds at a weight. The result is at most the type's greatest number.
 fn virtual_time(time: u64, weight: u32) -> u64
     requires { IsWeight weight }
     ensures { result ≡ min (vdelta_of time weight) (2 ^ 64 - 1) }

@@ -40,7 +40,7 @@ pub struct Lags {
 }
 
 impl Lags {
-    /// Lags before the first event.
+    /// Returns the lags before the first event.
     pub fn new() -> Lags
         ensures { result ≡ no_lags }
     {
@@ -52,7 +52,8 @@ impl Lags {
         }
     }
 
-    /// An event of the processor was answered, and its clock rose by `rise` ns. `tasks` are its tasks now.
+    /// Takes an answered event of the processor, whose clock rose by `rise` ns with it, and measures what its tasks are owed. `tasks` are the
+    /// processor's tasks now.
     pub fn take(&mut self, event: &Event, reply: &Reply, rise: u64, tasks: &[Entity])
         requires { length tasks.now ≤ TASKS }
         ensures { self.new ≡ lags_after (effect_of event.now reply.now) rise tasks.now self.old }
@@ -87,7 +88,7 @@ impl Lags {
 }
 
 impl Lags {
-    /// The stretch goes on: time is charged, and the discipline may decide.
+    /// Extends the stretch by a rise of the clock, and measures what the tasks are owed. The discipline may decide.
     fn extend(&mut self, stretch: Stretch, effect: Effect, rise: u64, tasks: &[Entity])
         requires { length tasks.now ≤ TASKS }
         ensures { self.new ≡ gone_on effect rise tasks.now stretch self.old }
@@ -104,7 +105,7 @@ impl Lags {
         self.stretch = Some(stretch);
     }
 
-    /// The stretch goes on, and no task is owed more than one was before.
+    /// Extends the stretch by a rise of the clock, without a look at each task: none is owed more than one was before.
     fn extend_unseen(&mut self, stretch: Stretch, effect: Effect, rise: u64)
         ensures { self.new ≡ record self.old { stretch = Some (decided_in effect (stretched rise stretch)); measured = saturating_sum self.old.measured 1 } }
     {
@@ -117,7 +118,7 @@ impl Lags {
         self.stretch = Some(stretch);
     }
 
-    /// A task was pulled from this processor, so its stretch ends.
+    /// Ends the stretch, because a task was pulled from this processor.
     pub fn forget(&mut self)
         ensures { self.new ≡ forgotten self.old }
     {
@@ -125,7 +126,7 @@ impl Lags {
     }
 }
 
-/// What an event does to the tasks that are there.
+/// Finds what an event does to the tasks that are there.
 fn effect_of(event: &Event, reply: &Reply) -> Effect
     ensures { result ≡ effect_of event.now reply.now }
 {
@@ -152,7 +153,7 @@ fn effect_of(event: &Event, reply: &Reply) -> Effect
     }
 }
 
-/// The effect of a decision, by who made it.
+/// Finds the effect of a decision, by who made it.
 fn effect_by(by: By) -> Effect
     ensures { result ≡ effect_by by }
 {

@@ -19,7 +19,7 @@ pub fn keeps_the_greatest()
     ensures { KeepsTheGreatest }
 {}
 
-/// EEVDF: count from a moment at which the furthest task is ahead of the mean by some virtual time. While no task comes or goes and the clock
+/// EEVDF: count from a point in time at which the furthest task is ahead of the mean by some virtual time. While no task comes or goes and the clock
 /// rises by at most r between two decisions, no task is owed more than n - 2 rises, its own share of one rise, and the time that this
 /// virtual time takes at the weight of the other tasks.
 pub fn eevdf_owes_within()

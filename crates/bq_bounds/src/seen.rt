@@ -7,7 +7,7 @@ use crate::running_task::RunningTask;
 use bq_disc::RunQueue;
 use bq_parts::Cpu;
 
-/// The running task of a processor, and the first that waits. `None` if nothing runs. The time that it
+/// Returns the running task of a processor, with the least virtual runtime that waits. `None` if nothing runs. The time that this
 /// takes grows with the logarithm of the number of waiting tasks.
 pub fn how_it_stands<Q: RunQueue>(cpu: &Cpu<Q>) -> Option<RunningTask>
     ensures { IsRunningTask cpu.now.running.current cpu.now.running.queue result }
@@ -23,7 +23,7 @@ pub fn how_it_stands<Q: RunQueue>(cpu: &Cpu<Q>) -> Option<RunningTask>
     }
 }
 
-/// The least virtual runtime of the tasks that wait. `None` if none waits.
+/// Returns the least virtual runtime of the tasks that wait. `None` if none waits.
 fn least_waiting<Q: RunQueue>(cpu: &Cpu<Q>) -> Option<u64>
     ensures { result ≡ least_waiting cpu.now.running.queue }
 {

@@ -35,7 +35,7 @@ struct Group {
 }
 
 impl Stretch {
-    /// A stretch that begins with these tasks.
+    /// Returns a stretch that begins with these tasks.
     pub fn begin(tasks: &[Entity]) -> Stretch
         requires { length tasks.now ≤ TASKS }
         ensures { result ≡ beginning tasks.now }
@@ -49,7 +49,7 @@ impl Stretch {
         }
     }
 
-    /// Adds how far the clock has risen.
+    /// Adds a rise of the clock, in nanoseconds, to `since`, and keeps in `most` the greatest value of `since`.
     pub fn rise(&mut self, rise: u64)
         ensures { self.new ≡ stretched rise self.old }
     {
@@ -57,14 +57,15 @@ impl Stretch {
         self.most = self.most.max(self.since);
     }
 
-    /// Notes that the discipline decides who runs: `since` is 0 again.
+    /// Notes that the discipline decides who runs: sets `since` to 0.
     pub fn decide(&mut self)
         ensures { self.new ≡ record self.old { since = 0 } }
     {
         self.since = 0;
     }
 
-    /// The greatest of what these tasks are owed, and what that task may be owed. Of equal ones it is the first. `None` if there is no task.
+    /// Finds the task that is owed most, the first of equal ones. Returns what it is owed and what it may be owed, in nanoseconds. `None` if
+    /// there is no task.
     pub fn most_owed(&self, tasks: &[Entity]) -> Option<Charge>
         requires { length tasks.now ≤ TASKS }
         ensures { result ≡ most_owed self.now tasks.now }
@@ -88,7 +89,7 @@ impl Stretch {
         best
     }
 
-    /// A bound on what any task of the stretch is owed, from a glance.
+    /// Returns a bound on what any task of the stretch is owed, from a glance: nanoseconds, at most the type's greatest number.
     pub fn at_most_owed(&self, glance: Glance) -> u64
         ensures { result ≡ min (at_most_owed glance self.now) (2 ^ 64 - 1) }
     {
@@ -96,7 +97,7 @@ impl Stretch {
         u64::try_from(time_of(behind, self.heaviest)).unwrap_or(u64::MAX)
     }
 
-    /// What a task of the group is owed, and what it may be owed.
+    /// Returns what a task of the group is owed and what it may be owed, both in nanoseconds.
     fn lag(&self, group: &Group, task: &Entity) -> Charge
         requires count { group.now.count ≤ TASKS }
         requires least { 1 ≤ group.now.weight }
@@ -111,7 +112,7 @@ impl Stretch {
         }
     }
 
-    /// What a task of this weight may be owed.
+    /// Returns what a task of this weight may be owed, in nanoseconds, at most the type's greatest number.
     fn allowed(&self, group: &Group, weight: u32) -> u64
         requires count { group.now.count ≤ TASKS }
         requires weight { IsWeight weight }
@@ -130,7 +131,7 @@ impl Stretch {
     }
 }
 
-/// How far the furthest of some tasks is ahead of a mean. 0 if none is ahead.
+/// Returns how far the furthest of some tasks is ahead of a mean, in virtual nanoseconds. 0 if none is ahead.
 fn furthest(mean: u64, tasks: &[Entity]) -> u64
     ensures { result ≡ furthest mean tasks.now }
 {
@@ -143,7 +144,7 @@ fn furthest(mean: u64, tasks: &[Entity]) -> u64
     most
 }
 
-/// The greatest weight of some tasks.
+/// Returns the greatest weight of some tasks. 0 if there is no task.
 fn heaviest(tasks: &[Entity]) -> u32
     ensures { result ≡ heaviest tasks.now }
 {

@@ -5,7 +5,7 @@ ghost use Rattle.bq_disc.specs.Totals.{sums_of, HasBounds};
 use bq_disc::limits::TASKS;
 use bq_disc::{Entity, Totals};
 
-/// The totals of some tasks.
+/// Adds up some tasks: their number, the sum of their weights, and the sum of weight times v.
 pub fn totals(tasks: &[Entity]) -> Totals
     requires { length tasks.now ≤ TASKS }
     ensures sums { result ≡ sums_of tasks.now }

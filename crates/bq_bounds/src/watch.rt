@@ -23,7 +23,7 @@ pub struct Watch {
 }
 
 impl Watch {
-    /// A watch before the first event.
+    /// Returns a watch before the first event.
     pub fn new() -> Watch
         ensures { result ≡ unwatched }
     {
@@ -35,8 +35,8 @@ impl Watch {
         }
     }
 
-    /// An event of the processor was answered, and its clock rose by `rise` ns. `running` is its running task before the event, `mean`
-    /// its mean after the charge.
+    /// Takes an answered event of the processor, whose clock rose by `rise` ns with it, and measures the charge. `running` is the running
+    /// task before the event, and `mean` the mean of the processor's tasks after the charge.
     pub fn take(
         &mut self,
         discipline: DisciplineName,
@@ -55,7 +55,7 @@ impl Watch {
         self.decide_by_event(event, reply, running.is_some());
     }
 
-    /// Adds how far the clock has risen, if `elapsed` is known.
+    /// Adds a rise of the clock to `elapsed`, if that is known.
     fn rise(&mut self, rise: u64)
         ensures { self.new ≡ risen rise self.old }
     {
@@ -78,7 +78,7 @@ impl Watch {
         }
     }
 
-    /// Measures one more charge.
+    /// Counts a measured charge, and keeps it if its difference is the greatest so far.
     pub fn measure(&mut self, charge: Charge)
         ensures { self.new ≡ measured charge self.old }
     {
@@ -130,7 +130,7 @@ impl Watch {
         };
     }
 
-    /// A task came or went that the discipline did not see when it decided.
+    /// Notes that a task came or went which the discipline did not see when it decided: `elapsed` is no longer known.
     pub fn disturb(&mut self)
         ensures { self.new ≡ disturbed self.old }
     {
@@ -138,7 +138,7 @@ impl Watch {
     }
 }
 
-/// The charge of greater difference, the first of two equal ones.
+/// Returns the charge of greater difference, the first of two equal ones.
 pub(crate) fn greater(first: Option<Charge>, second: Charge) -> Charge
     ensures { result ≡ greater first second }
 {

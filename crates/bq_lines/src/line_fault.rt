@@ -147,7 +147,7 @@ impl fmt::Display for LineShape {
 #[derive(Clone, Copy)]
 struct Quoted<'a>(&'a [u8]);
 
-/// A word, or its first 40 bytes if it is longer.
+/// Returns a word, or its first 40 bytes if it is longer.
 fn beginning(word: &[u8]) -> &[u8] {
     match word.chunks(40).next() {
         Some(first) => first,

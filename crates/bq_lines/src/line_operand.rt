@@ -30,7 +30,7 @@ pub enum LineOperand {
 }
 
 impl LineOperand {
-    /// Whether a word is of this kind.
+    /// Tells whether a word is of this kind.
     pub fn fits(self, word: &[u8]) -> bool {
         match self {
             LineOperand::Discipline => DisciplineName::of_word(word).is_some(),
@@ -50,7 +50,7 @@ impl LineOperand {
         }
     }
 
-    /// Whether a word has the form of its kind, if the kind is a number: digits, digits after `-` for a nice value, or hex digits
+    /// Tells whether a word has the form of its kind, if the kind is a number: digits, digits after `-` for a nice value, or hex digits
     /// after `0x` for a mask. True if the kind is no number.
     pub fn has_form(self, word: &[u8]) -> bool {
         match self {
@@ -127,21 +127,21 @@ impl fmt::Display for LineOperand {
     }
 }
 
-/// Whether a word is at least one digit, and nothing else.
+/// Tells whether a word is at least one digit, and nothing else.
 fn are_digits(word: &[u8]) -> bool
     ensures { result ≡ (nat_lt 0 (length word.now) && list_all is_ascii_digit word.now) }
 {
     !word.is_empty() && all_digits(word)
 }
 
-/// Whether each byte of a word is a digit.
+/// Tells whether each byte of a word is a digit.
 fn all_digits(word: &[u8]) -> bool
     ensures { result ≡ list_all is_ascii_digit word.now }
 {
     word.iter().all(|byte| byte.is_ascii_digit())
 }
 
-/// The words that follow a keyword.
+/// Returns what each word that follows a keyword must be, in their order.
 pub fn operands_of(keyword: Keyword) -> &'static [LineOperand] {
     match keyword {
         Keyword::Machine => &[LineOperand::Discipline, LineOperand::ProcessorCount],

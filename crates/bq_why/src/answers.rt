@@ -8,8 +8,8 @@ use bq_disc::RunQueue;
 use bq_hooks::Hook;
 use bq_parts::Cpu;
 
-/// The last answer of the policy at a hook, if its last run took this many steps: a run of the policy that is installed there gives
-/// this number in this many steps.
+/// Returns the last answer of the policy at a hook, if its last run took this many steps: a run of the policy that is installed there
+/// gives this number in this many steps.
 #[tactic(auto, using(crate::proofs::AnsweredLemmas::answered_by))]
 pub fn answer<Q: RunQueue>(cpu: &Cpu<Q>, hook: Hook, steps: u32) -> Option<u64>
     ensures { IfSome result (λ r0. (policy : Accepted) × ((at_hook hook cpu.now.hooks).policy ≡ Some policy)

@@ -15,7 +15,7 @@ pub(crate) struct Asked {
 }
 
 impl Asked {
-    /// The value if no policy was asked.
+    /// Returns the outcome if no policy was asked.
     pub fn nobody() -> Asked {
         Asked {
             steps: 0,
@@ -23,7 +23,7 @@ impl Asked {
         }
     }
 
-    /// The value if the policy at a hook of a processor took this many steps.
+    /// Returns the outcome if the policy at a hook of a processor took this many steps.
     pub fn at(machine: &AnyCore, processor: u8, hook: Hook, steps: u32) -> Asked {
         let answer = match machine.cpu(processor) {
             Some(AnyCpu::Cfs(cpu)) => answer(cpu, hook, steps),

@@ -10,7 +10,7 @@ use bq_disc::Entity;
 use bq_disc::limits::TASKS;
 use bq_words::DisciplineName;
 
-/// The task that a discipline chooses: CFS the one of least (v, id), EEVDF the eligible one of least (deadline, id). `None` if
+/// Finds the task that a discipline chooses: CFS the one of least (v, id), EEVDF the eligible one of least (deadline, id). `None` if
 /// there is no such task.
 pub fn choice(discipline: DisciplineName, tasks: &[Entity]) -> Option<Entity>
     requires { length tasks.now ≤ TASKS }
@@ -25,7 +25,7 @@ pub fn choice(discipline: DisciplineName, tasks: &[Entity]) -> Option<Entity>
     }
 }
 
-/// The task of least (v, id).
+/// Finds the task of least (v, id).
 fn least(tasks: &[Entity]) -> Option<Entity>
     ensures { result ≡ first_by runs_before tasks.now }
 {
@@ -38,7 +38,7 @@ fn least(tasks: &[Entity]) -> Option<Entity>
     best
 }
 
-/// The task, unless another one is given that runs before it.
+/// Returns the task, or the other one if that runs before it.
 fn run_first(task: &Entity, other: Option<Entity>) -> Entity
     ensures { result ≡ former runs_before task.now other }
 {
@@ -48,8 +48,8 @@ fn run_first(task: &Entity, other: Option<Entity>) -> Entity
     }
 }
 
-/// The task of least (deadline, id) among those whose v is at most the mean. The tasks have this weight and this sum of weight
-/// times v together.
+/// Finds the task of least (deadline, id) among those whose v is at most the mean. `weight` is the sum of all weights, and
+/// `weighted_sum` the sum of weight times v.
 fn earliest(tasks: &[Entity], weight: u64, weighted_sum: u128) -> Option<Entity>
     ensures { result ≡ first_by due_before (filter (is_at_most_mean weight weighted_sum) tasks.now) }
 {
@@ -64,7 +64,7 @@ fn earliest(tasks: &[Entity], weight: u64, weighted_sum: u128) -> Option<Entity>
     best
 }
 
-/// The task, unless another one is given that is due before it.
+/// Returns the task, or the other one if that is due before it.
 pub(crate) fn due_first(task: &Entity, other: Option<Entity>) -> Entity
     ensures { result ≡ former due_before task.now other }
 {

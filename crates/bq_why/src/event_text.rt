@@ -35,7 +35,7 @@ impl fmt::Display for EventText<'_> {
     }
 }
 
-/// The task and the processors that an event names, in the order of its line.
+/// Returns the task and the processors that an event names, in the order of its line.
 fn numbers_of(event: &Event) -> (Option<u16>, Option<u16>) {
     match event {
         Event::Admit { task, .. } | Event::Retire { task } => (Some(*task), None),
@@ -73,7 +73,7 @@ impl fmt::Display for RefusedEvent<'_> {
     }
 }
 
-/// Whether the task that an event names is one that there may be.
+/// Tells whether the task that an event names is one that there may be.
 fn is_task(event: &Event) -> bool {
     match event {
         Event::Admit { task, .. } | Event::Retire { task } | Event::BeginWake { task, .. } => {
@@ -96,7 +96,7 @@ impl fmt::Display for RefusalText {
     }
 }
 
-/// The reason of a refusal, in words without a number.
+/// Says the reason of a refusal, in words without a number.
 fn reason(refusal: Refusal) -> &'static str {
     match refusal {
         Refusal::NoProcessor => "the machine has no such processor",

@@ -21,7 +21,7 @@ pub fn present<Q: RunQueue>(alloc: Global, cpu: &Cpu<Q>) -> Result<Vec<Entity>, 
     Ok(tasks)
 }
 
-/// The tasks that wait at a processor, by rising (v, id). If there were more than 1,024, some would be left out.
+/// Lists the tasks that wait at a processor, by rising (v, id). If there were more than 1,024, some would be left out.
 pub fn waiting<Q: RunQueue>(alloc: Global, cpu: &Cpu<Q>) -> Result<Vec<Entity>, AllocError>
     ensures few { IfOk result (λ tasks. length tasks.items ≤ TASKS) }
     ensures all { IfOk result (λ tasks. length cpu.now.running.queue ≤ TASKS → tasks.items ≡ cpu.now.running.queue) }

@@ -37,7 +37,7 @@ pub enum OwnPull {
 }
 
 impl PullFacts {
-    /// Why the discipline takes the task that it takes, or none.
+    /// Finds why the discipline takes the task that it takes, or none.
     pub fn own(&self) -> OwnPull
         ensures { result ≡ own_pull_of self.now.size self.now.other_size self.now.movable.count }
     {
@@ -51,7 +51,7 @@ impl PullFacts {
     }
 }
 
-/// Finds what a pull of one processor from another sees. `None` if the machine lacks one of the two processors.
+/// Finds what a pull of one processor of a machine from another one sees. `None` if the machine lacks one of the two.
 pub(crate) fn pull_facts_in(
     alloc: Global,
     machine: &AnyCore,
@@ -73,7 +73,7 @@ pub(crate) fn pull_facts_in(
     Ok(Some(facts))
 }
 
-/// Finds what a pull from one processor to another sees.
+/// Finds what a pull sees that takes a task from the processor `there` to the processor `here`.
 pub fn pull_facts_between<Q: RunQueue>(
     alloc: Global,
     puller: u8,
@@ -96,7 +96,7 @@ pub fn pull_facts_between<Q: RunQueue>(
     })
 }
 
-/// The tasks of a queue that may go to a processor.
+/// Finds the tasks of a queue that may go to a processor.
 fn movable(queue: &[Entity], processor: u8) -> Movable
     requires inside { processor < PROCESSORS }
     requires few { length queue.now ≤ TASKS }

@@ -100,7 +100,7 @@ fn least_reason(ran: Option<Entity>, least: &Entity) -> Reason
     }
 }
 
-/// The task with this id, if it is there.
+/// Finds the task with this id, if it is there.
 pub(crate) fn find_task(tasks: &[Entity], id: u16) -> Option<Entity>
     ensures { result ≡ find_task id tasks.now }
 {

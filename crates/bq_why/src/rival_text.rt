@@ -99,7 +99,7 @@ pub(crate) fn write_equal_runtime(
     text.push_str("\n")
 }
 
-/// A task's name, or its number if it has none.
+/// Returns the text of a task: its name, or its number if it has none.
 fn who<'a>(names: &'a Names, task: &Entity) -> TaskText<'a> {
     TaskText {
         names,

@@ -22,7 +22,7 @@ pub fn passed_over(tasks: &[Entity]) -> Option<Entity>
     }
 }
 
-/// The task that is due first, whether it is eligible or not.
+/// Finds the task that is due first, whether it is eligible or not.
 fn first_due(tasks: &[Entity]) -> Option<Entity>
     ensures { result ≡ first_by due_before tasks.now }
 {
@@ -52,7 +52,8 @@ pub fn tied_with(discipline: DisciplineName, chosen: &Entity, tasks: &[Entity]) 
     ))
 }
 
-/// Whether `task` is not `chosen`, but as near to being chosen. The tasks have this weight and this sum of weight times v together.
+/// Tells whether `task` is not `chosen`, but as near to being chosen. `weight` is the sum of all weights, and `weighted_sum` the sum of
+/// weight times v.
 fn is_tied(
     discipline: DisciplineName,
     weight: u64,

@@ -28,7 +28,7 @@ pub struct TaskRow {
     pub lag: u128,
 }
 
-/// One row for each task, in the order of the tasks.
+/// Makes one row for each task, in the order of the tasks. `AllocError` if there is no memory for them.
 pub fn rows(alloc: Global, tasks: &[Entity]) -> Result<Vec<TaskRow>, AllocError>
     requires { length tasks.now ≤ TASKS }
     ensures { IfOk result (λ rows. rows.items ≡ map (row_of_task tasks.now) tasks.now) }
@@ -45,7 +45,7 @@ pub fn rows(alloc: Global, tasks: &[Entity]) -> Result<Vec<TaskRow>, AllocError>
     Ok(rows)
 }
 
-/// The row of a task. The tasks have this weight and this sum of weight times v together, and this mean.
+/// Makes the row of a task. `weight` is the sum of all weights, `weighted_sum` the sum of weight times v, and `mean` the mean v.
 fn row_among(task: &Entity, weight: u64, weighted_sum: u128, mean: u64) -> TaskRow
     ensures { result ≡ row_by weight weighted_sum mean task.now }
 {
@@ -60,7 +60,7 @@ fn row_among(task: &Entity, weight: u64, weighted_sum: u128, mean: u64) -> TaskR
     }
 }
 
-/// The virtual time that a discipline measures its tasks from: CFS from the least v, EEVDF from the mean v, rounded down. `None` if
+/// Finds the virtual time that a discipline measures its tasks from: CFS from the least v, EEVDF from the mean v, rounded down. `None` if
 /// there is no task.
 pub fn measured_from(discipline: DisciplineName, tasks: &[Entity]) -> Option<u64>
     requires { length tasks.now ≤ TASKS }

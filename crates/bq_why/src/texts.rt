@@ -69,7 +69,7 @@ impl fmt::Display for VirtualTime {
     }
 }
 
-/// The sign of a virtual time: a minus if it is before the first mark.
+/// Returns the sign of a virtual time: a minus if it is before the first mark, otherwise nothing.
 fn sign_before(time: u64) -> &'static str
     ensures { result.now ≡ sign_before time }
 {
@@ -119,21 +119,21 @@ impl fmt::Display for LagText<'_> {
     }
 }
 
-/// The nanoseconds of a row's lag, at most the greatest number of 64 bits.
+/// Returns a row's lag in nanoseconds, at most the greatest number of 64 bits.
 fn amount(row: &TaskRow) -> u64
     ensures { result ≡ min row.now.lag (2 ^ 64 - 1) }
 {
     u64::try_from(row.lag).unwrap_or(u64::MAX)
 }
 
-/// The sign of a row's lag.
+/// Returns the sign of a row's lag: a plus if the task is owed time, otherwise a minus.
 fn sign(row: &TaskRow) -> &'static str
     ensures { result.now ≡ lag_sign row.now.is_eligible }
 {
     if row.is_eligible { "+" } else { "-" }
 }
 
-/// Whether a row's task may run, in words.
+/// Says whether a row's task may run.
 pub fn eligibility(row: &TaskRow) -> &'static str
     ensures { result.now ≡ eligibility row.now }
 {

@@ -39,7 +39,7 @@ pub struct WhyForm {
     pull_facts: Option<PullFacts>,
 }
 
-/// The processor at which an event may choose, and the event's time. `None` if the event makes no choice.
+/// Returns the processor at which an event may choose, and the event's time in nanoseconds. `None` if the event makes no choice.
 pub fn processor_and_time(event: &Event) -> Option<(u8, u64)>
     ensures { result ≡ choice_place event.now }
 {
@@ -57,7 +57,7 @@ pub fn processor_and_time(event: &Event) -> Option<(u8, u64)>
     }
 }
 
-/// The running task of a processor, if one runs.
+/// Finds the running task of a processor, if one runs.
 fn running(machine: &AnyCore, processor: u8) -> Option<u16> {
     match machine.cpu(processor) {
         Some(AnyCpu::Cfs(cpu)) => cpu.running_id(),
@@ -67,7 +67,7 @@ fn running(machine: &AnyCore, processor: u8) -> Option<u16> {
 }
 
 impl WhyForm {
-    /// A form for the choices in the window.
+    /// Returns a form for the choices in the window.
     pub fn new(alloc: Global, window: Window) -> WhyForm
         ensures { result.window ≡ window }
     {
@@ -229,7 +229,7 @@ impl WhyForm {
         }
     }
 
-    /// Whether the window shows the choices of a reply.
+    /// Tells whether the window shows the choices of a reply.
     fn shows(&self, processor: u8, at: u64, reply: &Reply) -> bool {
         let task = match reply {
             Reply::Placed { task, .. } | Reply::Blocked { task, .. } => Some(*task),
@@ -245,7 +245,7 @@ impl WhyForm {
                 || self.shows_either(self.ran_before))
     }
 
-    /// Whether the window shows this task. False if there is no task.
+    /// Tells whether the window shows this task. False if there is no task.
     fn shows_either(&self, task: Option<u16>) -> bool {
         match task {
             Some(task) => self.window.shows_task(task),
