@@ -11,7 +11,7 @@ ghost use Rattle.bq_machine.specs.Loading.{IsPolicyOfImage, IsLoad, IsLoadRefuse
 
 use crate::clock::Clock;
 use crate::machine::Machine;
-use crate::prepared_install::{PreparedInstall, spares};
+use crate::prepared_install::{PreparedInstall, prepare_installs};
 use crate::records::{Records, answer_twice, no_calls};
 use bq_disc::RunQueue;
 use bq_history::{Naming, Receipt, Room};
@@ -89,7 +89,7 @@ fn install_event(processor: u8, hook: Hook, generation: u64, policy: Option<Poli
 }
 
 /// Adds a receipt to a list with room for it.
-fn keep(installs: &mut Vec<Receipt<Record>>, receipt: Receipt<Record>)
+fn push_receipt(installs: &mut Vec<Receipt<Record>>, receipt: Receipt<Record>)
     requires room { vec_len installs.old < vec_capacity installs.old }
     ensures items { installs.new.items ≡ installs.old.items ++ receipt ∷ [] }
     ensures len { vec_len installs.new ≡ vec_len installs.old + 1 }
@@ -127,9 +127,9 @@ impl<Q: RunQueue + Drop, K: Clock + Drop, N: Naming + Counting, const P: usize> 
     {
         let policy = policy_of(alloc, hook, image)?;
         let count = self.cpus.len();
-        let (Ok(()), Ok(spares), Ok(mut installs)) = (
+        let (Ok(()), Ok(prepared_installs), Ok(mut installs)) = (
             record_room(alloc, &mut seat.record_room),
-            spares(alloc, &policy, count),
+            prepare_installs(alloc, &policy, count),
             Vec::with_capacity(alloc, count),
         ) else {
             return Err(LoadRefused::Refusal(Refusal::OutOfMemory));
@@ -140,7 +140,13 @@ impl<Q: RunQueue + Drop, K: Clock + Drop, N: Naming + Counting, const P: usize> 
             generation,
             policy: &policy,
         };
-        self.install_all(rt, &mut seat.working, loading, spares, &mut installs);
+        self.install_all(
+            rt,
+            &mut seat.working,
+            loading,
+            prepared_installs,
+            &mut installs,
+        );
         Ok(LoadReceipts { draw, installs })
     }
 
@@ -164,7 +170,7 @@ impl<Q: RunQueue + Drop, K: Clock + Drop, N: Naming + Counting, const P: usize> 
         let generation = kept.drawn.saturating_add(1);
         kept.drawn = generation;
         let reply = Ok(Reply::Drawn { generation });
-        let draft = Records::quiet(Event::Draw, &reply).draft(room, Some(kept));
+        let draft = Records::without_calls(Event::Draw, &reply).draft(room, Some(kept));
         let receipt = working.commit(&self.recorder.history, journal, draft);
         (receipt, generation)
     }
@@ -175,13 +181,13 @@ impl<Q: RunQueue + Drop, K: Clock + Drop, N: Naming + Counting, const P: usize> 
         rt: &R,
         working: &mut WorkingSeat<N>,
         loading: Loading<'_>,
-        mut spares: Vec<PreparedInstall>,
+        mut prepared_installs: Vec<PreparedInstall>,
         installs: &mut Vec<Receipt<Record>>,
     )
         requires account { AccountMatchesReceipts reported_calls working.old }
         requires hook { is_for loading.hook loading.policy.now ≡ true }
-        requires many { vec_len spares ≡ P }
-        requires same { All (λ s. s.installed.policy ≡ loading.policy.now) spares.items }
+        requires many { vec_len prepared_installs ≡ P }
+        requires same { All (λ s. s.installed.policy ≡ loading.policy.now) prepared_installs.items }
         requires none { installs.old.items ≡ [] }
         requires room { P ≤ vec_capacity installs.old }
         ensures caller { working.new.caller ≡ with_receipts installs.new.items working.old.caller }
@@ -189,7 +195,7 @@ impl<Q: RunQueue + Drop, K: Clock + Drop, N: Naming + Counting, const P: usize> 
         ensures installs { AreInstalls 0 P loading.entry.hook loading.entry.generation loading.entry.policy.now installs.new.items }
     {
         'installs: for number in 0..self.cpus.len() {
-            let Some(spare) = spares.pop() else {
+            let Some(prepared) = prepared_installs.pop() else {
                 unreachable!()
             };
             let receipt = self.install(
@@ -198,9 +204,9 @@ impl<Q: RunQueue + Drop, K: Clock + Drop, N: Naming + Counting, const P: usize> 
                 number as u8,
                 loading.hook,
                 loading.generation,
-                spare,
+                prepared,
             );
-            keep(installs, receipt);
+            push_receipt(installs, receipt);
         }
     }
 
@@ -212,21 +218,21 @@ impl<Q: RunQueue + Drop, K: Clock + Drop, N: Naming + Counting, const P: usize> 
         processor: u8,
         hook: Hook,
         generation: u64,
-        spare: PreparedInstall,
+        prepared: PreparedInstall,
     ) -> Receipt<Record>
         requires account { AccountMatchesReceipts reported_calls working.old }
         requires inside { processor < P }
-        requires hook { is_for hook spare.installed.policy ≡ true }
+        requires hook { is_for hook prepared.installed.policy ≡ true }
         ensures caller { working.new.caller ≡ with_receipt result working.old.caller }
         ensures account { AccountMatchesReceipts reported_calls working.new }
-        ensures event { result.entry.event ≡ Event.Install processor hook generation spare.installed.policy }
+        ensures event { result.entry.event ≡ Event.Install processor hook generation prepared.installed.policy }
     {
         let PreparedInstall {
             mut installed,
-            for_record,
+            for_history,
             for_receipt,
             mut room,
-        } = spare;
+        } = prepared;
         installed.set_generation(generation);
         let mut guard = self.lock_processor(rt, processor);
         let cpu = &mut *guard;
@@ -235,7 +241,7 @@ impl<Q: RunQueue + Drop, K: Clock + Drop, N: Naming + Counting, const P: usize> 
         let drawn = journal.kept().drawn;
         let reply = cpu.cell.content.state.replace(hook, drawn, installed);
         let events = (
-            install_event(processor, hook, generation, for_record),
+            install_event(processor, hook, generation, for_history),
             install_event(processor, hook, generation, for_receipt),
         );
         let draft = Records::new(events, answer_twice(&reply), no_calls()).draft(&mut room, None);

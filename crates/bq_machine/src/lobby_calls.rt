@@ -123,7 +123,7 @@ impl<Q: RunQueue + Drop, K: Clock + Drop, N: Naming + Counting, const P: usize> 
         let mut guard = self.lobby.lock(rt);
         let lobby = &mut *guard;
         let reply = lobby.cell.content.state.admit(admission.task, new);
-        let draft = Records::quiet(admission.event(), &reply).draft(room, None);
+        let draft = Records::without_calls(admission.event(), &reply).draft(room, None);
         let mut journal = self.recorder.lock_journal(rt);
         working.commit_one(
             &self.recorder.history,
@@ -176,7 +176,7 @@ impl<Q: RunQueue + Drop, K: Clock + Drop, N: Naming + Counting, const P: usize> 
         let mut guard = self.lobby.lock(rt);
         let lobby = &mut *guard;
         let reply = lobby.cell.content.state.retire(task);
-        let draft = Records::quiet(Event::Retire { task }, &reply).draft(room, None);
+        let draft = Records::without_calls(Event::Retire { task }, &reply).draft(room, None);
         let mut journal = self.recorder.lock_journal(rt);
         working.commit_one(
             &self.recorder.history,

@@ -9,7 +9,7 @@ use crate::clock::Clock;
 use bq_bpf::board::COUNTERS;
 use bq_disc::RunQueue;
 use bq_history::Naming;
-use bq_recording::{ClosingRoom, MachineSeat, Recorder, lock, need_own};
+use bq_recording::{ClosingRoom, MachineSeat, Recorder, hang_unless_own, lock};
 use bq_shared::{Counting, NumberedCpu, NumberedInbox, OneLobby, UnderLock};
 use std::sync::{Mutex, MutexGuard, Wait};
 
@@ -86,7 +86,7 @@ impl<Q: RunQueue + Drop, K: Clock + Drop, N: Naming + Counting, const P: usize> 
         ensures own { (mutex_guard_value result).number ≡ processor }
     {
         let guard = lock(rt, &self.cpus[usize::from(processor)]);
-        need_own(rt, guard.cell.content.number, processor);
+        hang_unless_own(rt, guard.cell.content.number, processor);
         guard
     }
 
@@ -100,7 +100,7 @@ impl<Q: RunQueue + Drop, K: Clock + Drop, N: Naming + Counting, const P: usize> 
         ensures own { (mutex_guard_value result).number ≡ processor }
     {
         let guard = lock(rt, &self.inboxes[usize::from(processor)]);
-        need_own(rt, guard.cell.content.number, processor);
+        hang_unless_own(rt, guard.cell.content.number, processor);
         guard
     }
 }

@@ -35,7 +35,7 @@ impl<Q: RunQueue + Drop, K: Clock + Drop, N: Naming + Counting, const P: usize> 
 > {
     /// Refuses a number that names no processor.
     #[inline(always)]
-    pub(crate) fn need_processor(&self, processor: u8) -> Result<(), Refusal>
+    pub(crate) fn check_processor(&self, processor: u8) -> Result<(), Refusal>
         ensures inside { OnOk result (processor < P) }
         ensures refused { IfErr result (λ e. first_refusal (no_processor P processor ∷ []) ≡ Some e) }
     {
@@ -60,7 +60,7 @@ impl<Q: RunQueue + Drop, K: Clock + Drop, N: Naming + Counting, const P: usize> 
         ensures calls { OnOk result (is_some calls.new ≡ true) }
         ensures refused { IfErr result (IsCallRefused P (Event.Tick processor 0)) }
     {
-        self.need_processor(processor)?;
+        self.check_processor(processor)?;
         rooms_of_event(alloc, room, calls)
     }
 }

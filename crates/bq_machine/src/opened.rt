@@ -10,7 +10,7 @@ use crate::machine::Machine;
 use bq_disc::RunQueue;
 use bq_disc::limits::PROCESSORS;
 use bq_history::Naming;
-use bq_recording::{MachineSeat, Opening, Prepared, no_tasks};
+use bq_recording::{MachineSeat, Opening, Prepared, empty_queues};
 use bq_shared::{Counting, UnnamedCounters};
 use std::alloc::{AllocError, Global};
 
@@ -35,7 +35,7 @@ impl<Q: RunQueue + Drop, K: Clock + Drop, N: Naming + Counting, const P: usize> 
         ensures seats { IfOk result (λ r. r.1.items ≡ fresh_callers 0 seat_count) }
         ensures history { IfOk result (λ r. (r.0.recorder.history.setup ≡ P) × (r.0.recorder.history.callers ≡ seat_count)) }
     {
-        let queues = no_tasks(alloc, P)?;
+        let queues = empty_queues(alloc, P)?;
         Machine::with_queues(alloc, clock, queues, prepared, unnamed, seat_count)
     }
 
@@ -58,7 +58,7 @@ impl<Q: RunQueue + Drop, K: Clock + Drop, N: Naming + Counting, const P: usize> 
         ensures seats { IfOk result (λ r. r.1.items ≡ fresh_callers 0 seat_count) }
         ensures history { IfOk result (λ r. (r.0.recorder.history.setup ≡ P) × (r.0.recorder.history.callers ≡ seat_count)) }
     {
-        let (opening, seats) = Opening::over(alloc, queues, prepared, unnamed, seat_count)?;
+        let (opening, seats) = Opening::with_queues(alloc, queues, prepared, unnamed, seat_count)?;
         let Opening {
             recorder,
             cpus,

@@ -42,7 +42,7 @@ impl<Q: RunQueue + Drop, K: Clock + Drop, N: Naming + Counting, const P: usize> 
         ensures refused { IfErr result (IsCallRefused P (Event.Pull processor from 0)) }
         ensures err { OnErr result (seat.new ≡ seat.old) }
     {
-        self.need_both(processor, from)?;
+        self.check_pair(processor, from)?;
         rooms_of_event(alloc, &mut seat.record_room, &mut seat.call_rooms)?;
         Ok(self.pull_at(
             rt,
@@ -111,7 +111,7 @@ impl<Q: RunQueue + Drop, K: Clock + Drop, N: Naming + Counting, const P: usize> 
     }
 
     /// Refuses a number that names no processor, and two equal numbers.
-    fn need_both(&self, processor: u8, from: u8) -> Result<(), Refusal>
+    fn check_pair(&self, processor: u8, from: u8) -> Result<(), Refusal>
         ensures inside { OnOk result ((processor < P) × (from < P)) }
         ensures apart { OnOk result (processor ≢ from) }
         ensures passed { OnOk result (argument_refusal P (Event.Pull processor from 0) ≡ None) }

@@ -12,13 +12,13 @@ use bq_shared::{Calls, JournalState, PackedAnswer, Record, copy_event};
 /// The record of an event for the history, and an equal one for the receipt.
 #[derive(Drop)]
 pub(crate) struct Records {
-    pub logged: Record,
+    pub for_history: Record,
     pub for_receipt: Record,
-    pub ghost same: { logged ≡ for_receipt },
+    pub ghost same: { for_history ≡ for_receipt },
 }
 
 impl Records {
-    /// The records of an event, from the pieces of each record.
+    /// Makes the records of an event from the pieces of each record.
     #[inline(always)]
     pub fn new(
         events: (Event, Event),
@@ -31,7 +31,7 @@ impl Records {
         ensures { result.for_receipt ≡ record { event = events.0; reply = answers.0; calls = calls.0 } }
     {
         Records {
-            logged: Record {
+            for_history: Record {
                 event: events.0,
                 reply: answers.0,
                 calls: calls.0,
@@ -44,7 +44,7 @@ impl Records {
         }
     }
 
-    /// The records of an event that carries no policy and is answered without loads.
+    /// Makes the records of an event that carries no policy and is answered without loads.
     #[inline(always)]
     pub fn of(event: Event, answer: &Result<Reply, Refusal>, calls: (Calls, Calls)) -> Records
         requires event { ¬ (CarriesPolicy event) }
@@ -55,9 +55,9 @@ impl Records {
         Records::new(event_twice(event), answer_twice(answer), calls)
     }
 
-    /// The records of an event that carries no policy, is answered without loads, and calls no counters.
+    /// Makes the records of an event that carries no policy, is answered without loads, and calls no counters.
     #[inline(always)]
-    pub fn quiet(event: Event, answer: &Result<Reply, Refusal>) -> Records
+    pub fn without_calls(event: Event, answer: &Result<Reply, Refusal>) -> Records
         requires event { ¬ (CarriesPolicy event) }
         requires answer { has_loads answer.now ≡ false }
         ensures { result.for_receipt ≡ record { event = event; reply = answer.now; calls = [] } }
@@ -65,7 +65,7 @@ impl Records {
         Records::of(event, answer, no_calls())
     }
 
-    /// The records of a tick, as `of` makes them. Ticks are the most frequent events, so the reply is not packed case by case.
+    /// Makes the records of a tick, as `of` does. Ticks are the most frequent events, so the reply is not packed case by case.
     #[inline(always)]
     pub fn of_tick(processor: u8, now: u64, reply: Reply, calls: (Calls, Calls)) -> Records
         requires ticked { (run : Option ℕ) × (by : By) × (steps : ℕ) × (reply ≡ Ticked run by steps) }
@@ -82,7 +82,7 @@ impl Records {
         Records::new(event_twice(Event::Tick { processor, now }), answers, calls)
     }
 
-    /// What a commit is to write: these records, in the room that was made for them, and what the journal keeps of the world
+    /// Makes the draft of a commit: these records, the room that was made for the first, and what the journal keeps of the world
     /// from then on, or None if that does not change.
     #[inline(always)]
     pub fn draft(
@@ -93,23 +93,23 @@ impl Records {
         ensures { result ≡ record { room = room.entry; logged = self.for_receipt; reported = self.for_receipt; kept = kept } }
     {
         let Records {
-            logged,
+            for_history,
             for_receipt,
         } = self;
         CommitDraft {
             room,
-            logged,
+            logged: for_history,
             reported: for_receipt,
             kept,
         }
     }
 }
 
-/// Two copies of an event that carries no policy, for both records.
+/// Copies an event that carries no policy, for both records.
 #[inline(always)]
 pub(crate) fn event_twice(event: Event) -> (Event, Event)
     requires { ¬ (CarriesPolicy event) }
-    ensures logged { result.0 ≡ event }
+    ensures for_history { result.0 ≡ event }
     ensures for_receipt { result.1 ≡ event }
 {
     let Ok(again) = copy_event(&event) else {
@@ -118,20 +118,20 @@ pub(crate) fn event_twice(event: Event) -> (Event, Event)
     (event, again)
 }
 
-/// Two packed copies of an answer without loads, for both records.
+/// Packs an answer without loads twice, for both records.
 #[inline(always)]
 pub(crate) fn answer_twice(answer: &Result<Reply, Refusal>) -> (PackedAnswer, PackedAnswer)
     requires { has_loads answer.now ≡ false }
-    ensures logged { result.0 ≡ answer.now }
+    ensures for_history { result.0 ≡ answer.now }
     ensures for_receipt { result.1 ≡ answer.now }
 {
     (PackedAnswer::of(answer), PackedAnswer::of(answer))
 }
 
-/// No calls of counters, for both records.
+/// Makes two lists without calls of counters, for both records.
 #[inline(always)]
 pub(crate) fn no_calls() -> (Calls, Calls)
-    ensures logged { result.0 ≡ [] }
+    ensures for_history { result.0 ≡ [] }
     ensures for_receipt { result.1 ≡ [] }
 {
     (Calls::none(), Calls::none())

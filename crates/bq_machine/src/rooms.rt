@@ -22,11 +22,11 @@ pub(crate) struct BeginRooms<'a> {
     pub loads: LoadRooms,
 }
 
-/// Room for the loads at the beginning of a wake, for its record and for its receipt.
+/// Room for the loads at the beginning of a wake, for the history and for the receipt.
 #[derive(Drop)]
 pub(crate) struct LoadRooms {
-    /// Room for the loads of the record.
-    pub for_record: Box<Loads>,
+    /// Room for the loads of the record in the history.
+    pub for_history: Box<Loads>,
     /// Room for the loads of the receipt.
     pub for_receipt: Box<Loads>,
 }

@@ -183,7 +183,7 @@ impl<Q: RunQueue + Drop, K: Clock + Drop, N: Naming + Counting, const P: usize> 
         ensures refused { IfErr result (IsCallRefused P (Event.Block processor 0)) }
         ensures err { OnErr result (seat.new ≡ seat.old) }
     {
-        self.need_processor(processor)?;
+        self.check_processor(processor)?;
         record_room(alloc, &mut seat.record_room)?;
         Ok(self.block_at(rt, &mut seat.working, &mut seat.record_room, processor))
     }
@@ -214,7 +214,7 @@ impl<Q: RunQueue + Drop, K: Clock + Drop, N: Naming + Counting, const P: usize> 
             .content
             .state
             .block(&mut lobby.cell.content.state, processor, now);
-        let records = Records::quiet(Event::Block { processor, now }, &reply);
+        let records = Records::without_calls(Event::Block { processor, now }, &reply);
         let mut journal = self.recorder.lock_journal(rt);
         let kept = journal.kept().after_block(processor, &reply);
         working.commit_two(

@@ -53,7 +53,7 @@ fn wake_rooms(
     record_room(alloc, first)?;
     rooms_of_event(alloc, second, calls)?;
     Ok(LoadRooms {
-        for_record: loads_room(alloc)?,
+        for_history: loads_room(alloc)?,
         for_receipt: loads_room(alloc)?,
     })
 }
@@ -171,7 +171,7 @@ impl<Q: RunQueue + Drop, K: Clock + Drop, N: Naming + Counting, const P: usize> 
             .begin_wake(&mut lobby.cell.content.state, task, &journal.kept().loads);
         let events = event_twice(Event::BeginWake { processor, task });
         let answers = (
-            PackedAnswer::with_room(&reply, rooms.loads.for_record),
+            PackedAnswer::with_room(&reply, rooms.loads.for_history),
             PackedAnswer::with_room(&reply, rooms.loads.for_receipt),
         );
         let draft = Records::new(events, answers, no_calls()).draft(rooms.record, None);

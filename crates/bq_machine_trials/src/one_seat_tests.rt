@@ -163,7 +163,7 @@ fn says(receipt: &Receipt<Record>, place: u64, answer: Answer) -> bool {
             steps: 0,
         }),
     };
-    receipt.place == place && receipt.entry.reply.reported() == wanted
+    receipt.place == place && receipt.entry.reply.unpack() == wanted
 }
 
 /// Whether the receipts of installs stand behind this place, one after another, and say that each was done.
@@ -171,9 +171,7 @@ fn are_installed(installs: &[Receipt<Record>], draw: u64) -> bool {
     let mut place = draw;
     for install in installs {
         place = place.wrapping_add(1);
-        if install.place != place
-            || !matches!(install.entry.reply.reported(), Ok(Reply::Installed))
-        {
+        if install.place != place || !matches!(install.entry.reply.unpack(), Ok(Reply::Installed)) {
             return false;
         }
     }
@@ -182,7 +180,7 @@ fn are_installed(installs: &[Receipt<Record>], draw: u64) -> bool {
 
 /// Whether the receipt has this place, and says that this number was drawn.
 fn is_drawn(receipt: &Receipt<Record>, place: u64, number: u64) -> bool {
-    let reply = receipt.entry.reply.reported();
+    let reply = receipt.entry.reply.unpack();
     receipt.place == place
         && matches!(reply, Ok(Reply::Drawn { generation }) if generation == number)
 }

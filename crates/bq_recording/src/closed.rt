@@ -20,26 +20,26 @@ pub struct Closed<Q: RunQueue + Drop, const P: usize> {
 }
 
 impl<Q: RunQueue + Drop, const P: usize> Closed<Q, P> {
-    /// How many events the history has.
+    /// Returns how many events the history has.
     pub fn len(&self) -> u64
         ensures { result ≡ length self.now.history }
     {
         self.history.len()
     }
 
-    /// The event at a place, counted from 0, with its answer and its calls of counters; None if the history is not that long.
+    /// Returns the event at a place, counted from 0, with its answer and its calls of counters; None if the history is not that long.
     pub fn logged(&self, place: u64) -> Option<(&Event, Result<Reply, Refusal>, &[CounterCall])>
         ensures { option_map (λ r. record { event = r.0.now; reply = r.1; calls = r.2.now }) result ≡ slice_get self.now.history place }
     {
         let record = self.history.logged(place)?;
         Some((
             &record.event,
-            record.reply.reported(),
+            record.reply.unpack(),
             record.calls.as_slice(),
         ))
     }
 
-    /// Whether the history has the receipt's event at the receipt's place, with the same answer and the same calls of
+    /// Returns whether the history has the receipt's event at the receipt's place, with the same answer and the same calls of
     /// counters. Policies are compared by their contents.
     pub fn confirms(&self, receipt: &Receipt<Record>) -> bool
         ensures { IsTrue result ↔ IsConfirmed (λ r s. r ≡ s) self.now.history receipt.now }

@@ -62,7 +62,7 @@ pub fn close<Q: RunQueue + Drop, N: Naming + Counting, const P: usize>(
         journal,
         room,
     } = locks;
-    let (contents, all) = all_out(&history, cpus, inboxes, lobby, room);
+    let (contents, all) = take_contents(&history, cpus, inboxes, lobby, room);
     let journal = journal.into_inner();
     let drawn = journal.kept().drawn;
     let (log, words) = bq_shared::close(history, journal, all, counters, seats);
@@ -86,8 +86,8 @@ struct Contents<Q: RunQueue + Drop, const P: usize> {
     ghost for_inboxes: { (vec_len room_for_inboxes ≡ 0) × (P ≤ vec_capacity room_for_inboxes) },
 }
 
-/// Takes all contents out of their locks. One holder gets their parts.
-fn all_out<Q: RunQueue + Drop, N: Naming + Counting, const P: usize>(
+/// Takes all contents out of their locks. Returns them with one holder of their parts.
+fn take_contents<Q: RunQueue + Drop, N: Naming + Counting, const P: usize>(
     history: &Shared<Q, N>,
     cpus: Vec<Mutex<UnderLock<NumberedCpu<Q>, N>>>,
     inboxes: Vec<Mutex<UnderLock<NumberedInbox, N>>>,
@@ -107,20 +107,20 @@ fn all_out<Q: RunQueue + Drop, N: Naming + Counting, const P: usize>(
         cpus: room_for_cpus,
         inboxes: room_for_inboxes,
     } = room.into_inner();
-    let (hall, mut all) = lobby.into_inner().into_parts();
+    let (lobby_content, mut all) = lobby.into_inner().into_parts();
     let cpus = gather(history, &mut all, cpus, numbered_cpus);
     let inboxes = gather(history, &mut all, inboxes, numbered_inboxes);
     let contents = Contents {
         cpus,
         inboxes,
-        lobby: hall.state,
+        lobby: lobby_content.state,
         room_for_cpus,
         room_for_inboxes,
     };
     (contents, all)
 }
 
-/// The core of the world that has these parts.
+/// Makes the core of the world that has these parts.
 fn core_of<Q: RunQueue + Drop, const P: usize>(contents: Contents<Q, P>, drawn: u64) -> Core<Q, P>
     requires few { P ≤ PROCESSORS }
     requires once { (p : PartOf) → count (same_part p) (parts_out contents.lobby contents.cpus.items contents.inboxes.items) ≤ 1 }

@@ -19,5 +19,5 @@ pub use ended::{Locks, close};
 pub use locked_parts::{PartLocks, part_locks};
 pub use opening::Opening;
 pub use prepared::{Prepared, prepare};
-pub use queues::no_tasks;
-pub use recorder::{CpuCell, MachineSeat, Recorder, WorkingSeat, lock, need_own};
+pub use queues::empty_queues;
+pub use recorder::{CpuCell, MachineSeat, Recorder, WorkingSeat, hang_unless_own, lock};

@@ -41,10 +41,10 @@ pub fn part_locks<Q: RunQueue + Drop, N: Naming>(
     ensures inboxes { IfOk result (λ l. vec_len l.inboxes ≡ count) }
     ensures rest { IfOk result (λ _. (s : ℕ) → all.old ≡ map part_item (first_parts count) ++ callers_from 0 s → all.new ≡ callers_from 0 s) }
 {
-    let hall = OneLobby {
+    let lobby_content = OneLobby {
         state: Lobby::new(alloc)?,
     };
-    let lobby = Locked::open(history, all, hall);
+    let lobby = Locked::open(history, all, lobby_content);
     let cpus = cpu_locks(alloc, history, all, queues)?;
     let inboxes = inbox_locks(alloc, history, all, count)?;
     Ok(PartLocks {
@@ -54,7 +54,7 @@ pub fn part_locks<Q: RunQueue + Drop, N: Naming>(
     })
 }
 
-/// A lock for each processor.
+/// Makes a lock for each processor, numbered from 0, with its queue.
 fn cpu_locks<Q: RunQueue + Drop, N: Naming>(
     alloc: Global,
     history: &Shared<Q, N>,
@@ -81,7 +81,7 @@ fn cpu_locks<Q: RunQueue + Drop, N: Naming>(
     Ok(locks)
 }
 
-/// A lock for each inbox.
+/// Makes a lock for each of `count` inboxes, numbered from 0, without tasks.
 fn inbox_locks<Q: RunQueue + Drop, N: Naming>(
     alloc: Global,
     history: &Shared<Q, N>,

@@ -42,7 +42,7 @@ pub struct Opening<Q: RunQueue + Drop, N: Naming + Counting, const P: usize> {
 impl<Q: RunQueue + Drop, N: Naming + Counting, const P: usize> Opening<Q, N, P> {
     /// Opens a machine over `queues`, one for each processor, without tasks and at the first mark. Returns it with its
     /// seats, numbered from 0. It takes memory for all locks and seats.
-    pub fn over(
+    pub fn with_queues(
         alloc: Global,
         queues: Vec<Q>,
         prepared: Prepared<Q>,
@@ -86,8 +86,8 @@ impl<Q: RunQueue + Drop, N: Naming + Counting, const P: usize> Opening<Q, N, P> 
     }
 }
 
-/// The recorder of a machine of `count` processors at the start, one holder of all its parts and callers, and the account of
-/// all seats.
+/// Makes the recorder of a machine of `count` processors. Returns it with one holder of all parts and callers, and the account
+/// of all seats.
 fn recorder_at_start<Q: RunQueue + Drop, N: Naming + Counting>(
     prepared: Prepared<Q>,
     unnamed: UnnamedCounters,
@@ -109,7 +109,7 @@ fn recorder_at_start<Q: RunQueue + Drop, N: Naming + Counting>(
     let (counters, account) = unnamed.named::<N>();
     let kept = JournalState {
         drawn: 0,
-        loads: no_loads(count),
+        loads: zero_loads(count),
     };
     let journal = Journal::open(&history, &mut all, kept);
     let recorder = Recorder {
@@ -120,8 +120,8 @@ fn recorder_at_start<Q: RunQueue + Drop, N: Naming + Counting>(
     (recorder, all, account)
 }
 
-/// The loads of processors without tasks: all 0.
-fn no_loads(count: usize) -> Loads
+/// Makes the loads of processors without tasks: all are 0.
+fn zero_loads(count: usize) -> Loads
     requires { count ≤ PROCESSORS }
     ensures { result ≡ replicate count 0 }
 {

@@ -10,7 +10,7 @@ use std::alloc::{AllocError, Global};
 /// A world with an empty history, which has no name yet.
 pub type Prepared<Q> = Opened<SchedulerLaw<Q>>;
 
-/// The world at the start, and its counters, for a machine of this many processors and seats.
+/// Makes the world at the start, and its counters, for a machine of this many processors and seats.
 pub fn prepare<Q: RunQueue>(
     alloc: Global,
     processors: u64,

@@ -5,8 +5,8 @@ ghost use Rattle.bq_recording.specs.Queues.{AreFresh};
 use bq_disc::RunQueue;
 use std::alloc::{AllocError, Global};
 
-/// A list of `count` queues without tasks, each at the first mark. It takes memory for the list.
-pub fn no_tasks<Q: RunQueue + Drop>(alloc: Global, count: usize) -> Result<Vec<Q>, AllocError>
+/// Makes `count` queues without tasks, each at the first mark. It takes memory for the list.
+pub fn empty_queues<Q: RunQueue + Drop>(alloc: Global, count: usize) -> Result<Vec<Q>, AllocError>
     ensures many { IfOk result (λ v. vec_len v ≡ count) }
     ensures empty { IfOk result (λ v. AreFresh Q.members Q.last_mark v.items) }
 {

@@ -55,8 +55,8 @@ pub fn lock<'a, R: Wait, T>(rt: &R, of: &'a Mutex<T>) -> MutexGuard<'a, T> {
     }
 }
 
-/// Waits for ever if a lock has the content of another number.
-pub fn need_own<R: Wait>(rt: &R, number: u8, wanted: u8)
+/// Waits for ever if a lock has the content of another number, and returns at once if it has its own.
+pub fn hang_unless_own<R: Wait>(rt: &R, number: u8, wanted: u8)
     ensures { number ≡ wanted }
 {
     if number != wanted {

@@ -6,7 +6,6 @@
 #![tactic(auto)]
 
 mod account;
-pub mod answer;
 pub mod calls;
 pub mod cells;
 mod closed;
@@ -15,13 +14,13 @@ mod counter_board;
 mod counters;
 pub mod law;
 mod opened;
+pub mod packed_answer;
 pub mod record;
 pub mod same;
 mod seat;
 mod working;
 
 pub use account::{Account, CounterAccount, Counting};
-pub use answer::PackedAnswer;
 pub use calls::{CallRooms, Calls, hold_calls};
 pub use cells::{NumberedCpu, NumberedInbox, OneLobby, UnderLock};
 pub use closed::close;
@@ -30,6 +29,7 @@ pub use counter_board::CounterBoard;
 pub use counters::{Counters, UnnamedCounters};
 pub use law::{CpuState, JournalState, SchedulerLaw, Shared, WorldPart, WorldState};
 pub use opened::seats;
+pub use packed_answer::PackedAnswer;
 pub use record::{Record, call_rooms, loads_room, record_room};
 pub use same::is_same_event;
 pub use seat::{ReportsCalls, Seat};

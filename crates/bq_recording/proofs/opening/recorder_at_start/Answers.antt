@@ -10,9 +10,9 @@ use Rattle.bq_recording.proofs.opening.recorder_at_start.Goals as goal
 pub open-journal-requires : goal.open-journal-requires
 open-journal-requires g c =
     let p = c.args.prepared.1 in
-    let none : journal_state_of (opening_world p.setup) ≡ record { drawn = 0; loads = c.no_loads.result } =
+    let none : journal_state_of (opening_world p.setup) ≡ record { drawn = 0; loads = c.zero_loads.result } =
     ap (λ (ls : List ℕ). record { drawn = 0; loads = ls })
-    (opening_loads p.setup ∙ ap (λ (n : ℕ). replicate n 0) c.requires.counts.0 ∙ sym c.no_loads.ensures) in
+    (opening_loads p.setup ∙ ap (λ (n : ℕ). replicate n 0) c.requires.counts.0 ∙ sym c.zero_loads.ensures) in
     record { first = ap first_item c.named-history.ensures.1 ∙ ap (λ (k : JournalState). journal_item [] k ∷ []) none }
 
 pub returns-clause-items : goal.returns-clause-items

@@ -17,14 +17,14 @@ commit_one-requires-clause-may g c =
     let new : c.args.new ≡ admitted n a.task a.nice a.mask a.slice = rw (← c.args.self.now.setup) at c.requires.new in (
       lobby_part own,
       c.lobby.invariant.0,
-      rw (c.draft-draft.ensures, c.quiet.ensures, c.event.ensures)
+      rw (c.draft-draft.ensures, c.without_calls.ensures, c.event.ensures)
           (admit_moves g.Q.R.Discipline.discipline n a.task a.nice a.mask a.slice own c.admit-reply.new.self k
           c.admit-reply.result fits (rw new at c.admit-reply.ensures.share)),
     )
 
 pub commit_one-requires-clause-reported : goal.commit_one-requires-clause-reported
-commit_one-requires-clause-reported g c = rw (c.draft-draft.ensures, c.quiet.ensures) c.requires.account
+commit_one-requires-clause-reported g c = rw (c.draft-draft.ensures, c.without_calls.ensures) c.requires.account
 
-pub quiet-requires-clause-answer : goal.quiet-requires-clause-answer
-quiet-requires-clause-answer g c =
+pub without_calls-requires-clause-answer : goal.without_calls-requires-clause-answer
+without_calls-requires-clause-answer g c =
     admits_brief c.args.admission.task _ _ c.admit-reply.result c.admit-reply.new.self c.admit-reply.ensures.share

@@ -16,7 +16,7 @@ replace-reply-requires g c =
     let n = c.args.self.now.recorder.history.setup in
     let h = c.args.hook in
     let generation = c.args.generation in
-    let i = c.args.spare.installed in
+    let i = c.args.prepared.installed in
     let below : c.args.processor < n = omega (arith, c.requires.inside, c.args.self.now.setup) in
     let fits : argument_refusal n (Install c.args.processor h generation i.policy) ≡ None =
     rw (lt-leb n c.args.processor below, c.requires.hook) refl in
@@ -28,7 +28,7 @@ commit_one-requires-clause-may g c =
     let n = c.args.self.now.recorder.history.setup in
     let h = c.args.hook in
     let generation = c.args.generation in
-    let i = c.args.spare.installed in
+    let i = c.args.prepared.installed in
     let s = c.set_generation.new.self in
     let own = c.cpu.inside.cell.content in
     let k = c.deref_mut-journal.result.now.1 in
@@ -41,7 +41,7 @@ commit_one-requires-clause-may g c =
     rw (lt-leb n c.args.processor below, c.requires.hook) refl in
     let whole : s ≡ record { policy = i.policy; generation = generation; maps = fresh_maps i.policy } =
     c.set_generation.ensures
-    ∙ ap (λ (m : List (List ℕ)). record { policy = i.policy; generation = generation; maps = m }) c.args.spare.fresh in
+    ∙ ap (λ (m : List (List ℕ)). record { policy = i.policy; generation = generation; maps = m }) c.args.prepared.fresh in
     let had : Installs h k.drawn own.state s r q = rw c.kept.ensures at c.replace-reply.ensures.share in
     let share = subst (λ (x : InstalledFacts). Installs h k.drawn own.state x r q) whole had in (
       cpu_part own.number own.state,
@@ -50,15 +50,15 @@ commit_one-requires-clause-may g c =
         c.draft-draft.ensures,
         c.new.ensures,
         c.install_event.ensures,
-        c.answer_twice.ensures.logged,
-        c.no_calls.ensures.logged,
-        c.args.spare.record_is,
+        c.answer_twice.ensures.for_history,
+        c.no_calls.ensures.for_history,
+        c.args.prepared.history_is,
         same,
       ) (install_moves d n c.args.processor generation h i.policy own.state q k r fits share),
     )
 
 pub commit_one-requires-clause-reported : goal.commit_one-requires-clause-reported
-commit_one-requires-clause-reported g c = rw (c.draft-draft.ensures, c.new.ensures, c.no_calls.ensures.logged) c.requires.account
+commit_one-requires-clause-reported g c = rw (c.draft-draft.ensures, c.new.ensures, c.no_calls.ensures.for_history) c.requires.account
 
 pub answer_twice-requires : goal.answer_twice-requires
 answer_twice-requires g c = installs_brief c.args.hook _ _ _ c.replace-reply.result c.replace-reply.new.self c.replace-reply.ensures.share

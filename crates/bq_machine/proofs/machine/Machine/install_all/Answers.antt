@@ -8,8 +8,8 @@ use Rattle.bq_machine.specs.Calls.{AreInstalls}
 use Rattle.bq_machine.proofs.InstallLemmas.{installs_more}
 use Rattle.bq_machine.proofs.machine.Machine.install_all.Goals as goal
 
-pub keep-requires : goal.keep-requires
-keep-requires g c = omega (
+pub push_receipt-requires : goal.push_receipt-requires
+push_receipt-requires g c = omega (
   arith,
   c.installs-test.true,
   c.len-number-end.ensures,
@@ -25,11 +25,11 @@ installs-preserved g c =
     let x = c.install-receipt.result in
     let start = c.args.working.now.caller in
     let called = rw was.caller at c.install-receipt.ensures.caller in
-    let d = c.in-Some.spare in
-    let many = vec_len at.spares in
+    let d = c.in-Some.prepared in
+    let many = vec_len at.prepared_installs in
     let full : 0 < many = omega (arith, was.left, c.installs-test.true, c.len-number-end.ensures, c.args.self.now.counted) in
-    let there : many - 1 < length at.spares.items = omega (arith, full, at.spares.ok.0) in
-    let last : d ≡ slice_index_or at.spares.items (many - 1) d = ap (λ o. unwrap_or o d) (sym c.in-Some.is ∙ c.pop.ensures.value d full) in
+    let there : many - 1 < length at.prepared_installs.items = omega (arith, full, at.prepared_installs.ok.0) in
+    let last : d ≡ slice_index_or at.prepared_installs.items (many - 1) d = ap (λ o. unwrap_or o d) (sym c.in-Some.is ∙ c.pop.ensures.value d full) in
     let of : d.installed.policy ≡ c.args.loading.policy.now = ap (λ s. s.installed.policy) last ∙ was.same (many - 1) d there in
     let event = rw of at c.install-receipt.ensures.event in
     let zero : at.number ≡ 0 + at.number = omega arith in
@@ -38,16 +38,16 @@ installs-preserved g c =
     record {
       caller =
           called ∙ ap (λ (l : List (Receipt Record)). (start.0, l))
-          (append_assoc start.1 at.installs.items (x ∷ []) ∙ ap (λ (l : List (Receipt Record)). start.1 ++ l) (sym c.keep.ensures.items));
+          (append_assoc start.1 at.installs.items (x ∷ []) ∙ ap (λ (l : List (Receipt Record)). start.1 ++ l) (sym c.push_receipt.ensures.items));
       account = c.install-receipt.ensures.account;
       left = search rules;
       same =
           rw c.pop.ensures.rest
-          (All-take (λ s. s.installed.policy ≡ c.args.loading.policy.now) (vec_len at.spares - 1) at.spares.items was.same);
+          (All-take (λ s. s.installed.policy ≡ c.args.loading.policy.now) (vec_len at.prepared_installs - 1) at.prepared_installs.items was.same);
       made = search rules;
-      room = omega (arith, was.room, c.keep.ensures.capacity);
+      room = omega (arith, was.room, c.push_receipt.ensures.capacity);
       are =
-          rw c.keep.ensures.items (installs_more 0 at.number c.args.loading.hook c.args.loading.generation
+          rw c.push_receipt.ensures.items (installs_more 0 at.number c.args.loading.hook c.args.loading.generation
           c.args.loading.policy.now at.installs.items x was.are next);
     }
 

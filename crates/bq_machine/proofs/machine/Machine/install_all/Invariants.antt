@@ -11,8 +11,8 @@ abbrev pub invariant-installs : goal.invariant-installs
 invariant-installs g l = record {
   caller : l.working.caller ≡ with_receipts l.installs.items l.initial.working.caller;
   account : AccountMatchesReceipts reported_calls l.working;
-  left : vec_len l.spares + l.number ≡ g.row.P;
-  same : All (λ s. s.installed.policy ≡ l.loading.policy.now) l.spares.items;
+  left : vec_len l.prepared_installs + l.number ≡ g.row.P;
+  same : All (λ s. s.installed.policy ≡ l.loading.policy.now) l.prepared_installs.items;
   made : vec_len l.installs ≡ l.number;
   room : g.row.P ≤ vec_capacity l.installs;
   are : AreInstalls 0 l.number l.loading.hook l.loading.generation l.loading.policy.now l.installs.items;

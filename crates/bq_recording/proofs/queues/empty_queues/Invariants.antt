@@ -1,6 +1,6 @@
 use Rattle.std.proofs.Common.{◌≡◌, vec_len}
 use Rattle.bq_recording.specs.Queues.{AreFresh}
-use Rattle.bq_recording.proofs.queues.no_tasks.Given as goal
+use Rattle.bq_recording.proofs.queues.empty_queues.Given as goal
 
 abbrev pub invariant-queues : goal.invariant-queues
 invariant-queues g l =

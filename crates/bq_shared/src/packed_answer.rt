@@ -50,10 +50,10 @@ pub enum PackedReply {
     Refused(Refusal),
 }
 
-/// The answer to an event, in little memory. Contracts see the answer.
+/// The answer to an event, in little memory. Contracts see the answer as it is unpacked.
 #[derive(Drop)]
 pub struct PackedAnswer {
-    brief: PackedReply,
+    packed: PackedReply,
 }
 
 impl Model for PackedAnswer {
@@ -64,7 +64,7 @@ impl Model for PackedAnswer {
 
     ghost Value = { Result Replied Refused };
 
-    ghost view = { λ a. unpacked_answer a.brief };
+    ghost view = { λ a. unpacked_answer a.packed };
 }
 
 impl PackedAnswer {
@@ -73,7 +73,7 @@ impl PackedAnswer {
         requires { has_loads answer.now ≡ false }
         ensures { result ≡ answer.now }
     {
-        PackedAnswer::packed(answer, None)
+        PackedAnswer::pack(answer, None)
     }
 
     /// Packs a refusal.
@@ -81,7 +81,7 @@ impl PackedAnswer {
         ensures { result ≡ Err refusal }
     {
         PackedAnswer {
-            brief: PackedReply::Refused(refusal),
+            packed: PackedReply::Refused(refusal),
         }
     }
 
@@ -91,7 +91,7 @@ impl PackedAnswer {
         ensures { result ≡ Ok (reply.Ticked run by steps) }
     {
         PackedAnswer {
-            brief: PackedReply::Ticked { run, by, steps },
+            packed: PackedReply::Ticked { run, by, steps },
         }
     }
 
@@ -99,15 +99,15 @@ impl PackedAnswer {
     pub fn with_room(answer: &Result<Reply, Refusal>, room: Box<Loads>) -> PackedAnswer
         ensures { result ≡ answer.now }
     {
-        PackedAnswer::packed(answer, Some(room))
+        PackedAnswer::pack(answer, Some(room))
     }
 
     /// Packs an answer case by case. Its loads, if it has any, go into `room`, which may be None if it has none.
-    fn packed(answer: &Result<Reply, Refusal>, room: Option<Box<Loads>>) -> PackedAnswer
+    fn pack(answer: &Result<Reply, Refusal>, room: Option<Box<Loads>>) -> PackedAnswer
         requires { has_loads answer.now ≡ true → is_some room ≡ true }
         ensures { result ≡ answer.now }
     {
-        let brief = match answer {
+        let packed = match answer {
             Ok(Reply::Admitted) => PackedReply::Admitted,
             Ok(Reply::Retired) => PackedReply::Retired,
             Ok(Reply::Drawn { generation }) => PackedReply::Drawn {
@@ -172,14 +172,14 @@ impl PackedAnswer {
             },
             Err(refusal) => PackedReply::Refused(*refusal),
         };
-        PackedAnswer { brief }
+        PackedAnswer { packed }
     }
 
-    /// The answer, unpacked.
-    pub fn reported(&self) -> Result<Reply, Refusal>
+    /// Unpacks the answer.
+    pub fn unpack(&self) -> Result<Reply, Refusal>
         ensures { result ≡ self.now }
     {
-        let reply = match &self.brief {
+        let reply = match &self.packed {
             PackedReply::Admitted => Reply::Admitted,
             PackedReply::Retired => Reply::Retired,
             PackedReply::Drawn { generation } => Reply::Drawn {
@@ -237,18 +237,18 @@ impl PackedAnswer {
         Ok(reply)
     }
 
-    /// Whether the answer is a refusal.
+    /// Returns whether the answer is a refusal.
     pub fn is_err(&self) -> bool
         ensures { result ≡ is_err self.now }
     {
-        matches!(&self.brief, PackedReply::Refused(_))
+        matches!(&self.packed, PackedReply::Refused(_))
     }
 
-    /// Whether both answers are equal.
+    /// Compares two answers. Returns whether they are equal.
     pub fn is_same(&self, other: &PackedAnswer) -> bool
         ensures { IsTrue result ↔ (self.now ≡ other.now) }
     {
-        match (&self.brief, &other.brief) {
+        match (&self.packed, &other.packed) {
             // Most answers are to ticks, so these are compared here; others are unpacked.
             (
                 PackedReply::Ticked { run, by, steps },
@@ -258,12 +258,12 @@ impl PackedAnswer {
                     steps: their_steps,
                 },
             ) => run == their_run && by == their_by && steps == their_steps,
-            _ => is_same_answer(&self.reported(), &other.reported()),
+            _ => is_same_answer(&self.unpack(), &other.unpack()),
         }
     }
 }
 
-/// Whether both answers are equal, by value.
+/// Compares two answers that are unpacked. Returns whether they are equal.
 fn is_same_answer(answer: &Result<Reply, Refusal>, other: &Result<Reply, Refusal>) -> bool
     ensures { IsTrue result ↔ (answer.now ≡ other.now) }
 {

@@ -1,5 +1,5 @@
 use Rattle.std.proofs.Common.{ap, sym, ◌∙◌}
-use Rattle.bq_recording.proofs.opening.Opening.over.Goals as goal
+use Rattle.bq_recording.proofs.opening.Opening.with_queues.Goals as goal
 
 pub part_locks-requires-clause-items : goal.part_locks-requires-clause-items
 part_locks-requires-clause-items g c = (c.args.prepared.1.callers, c.recorder_at_start-recorder.ensures.items)

@@ -1,5 +1,5 @@
 use Rattle.std.proofs.Common.{◌≡◌, replicate}
-use Rattle.bq_recording.proofs.opening.no_loads.Given as goal
+use Rattle.bq_recording.proofs.opening.zero_loads.Given as goal
 
 abbrev pub invariant-loads : goal.invariant-loads
 invariant-loads l = (l.loads ≡ replicate l.counter 0)
