@@ -2,7 +2,7 @@
 ghost use Rattle.std.specs.Prelude.{◌≡◌, ◌<◌, ◌∷◌, [], Some, IfErr, OnOk, is_some, true};
 ghost use Rattle.bq_parts.specs.Refusals.{first_refusal, no_processor};
 ghost use Rattle.bq_parts.specs.declared.refusal.Refusal.TheVariants as no;
-ghost use Rattle.bq_machine.specs.Calls.{IsCallRefused};
+ghost use Rattle.bq_machine.specs.Calls.{IsProcessorCallRefused};
 
 use crate::clock::Clock;
 use crate::machine::Machine;
@@ -46,7 +46,7 @@ impl<Q: RunQueue + Drop, K: Clock + Drop, N: Naming + Counting, const P: usize> 
     }
 
     /// Prepares an event at a processor before the processor is locked. It is refused only for the processor's number or for
-    /// lack of memory. That holds for each event at each time, so the contract names just a tick at time 0.
+    /// lack of memory.
     #[inline(always)]
     pub(crate) fn begin_call(
         &self,
@@ -58,7 +58,7 @@ impl<Q: RunQueue + Drop, K: Clock + Drop, N: Naming + Counting, const P: usize> 
         ensures inside { OnOk result (processor < P) }
         ensures ready { OnOk result (room.new ≡ true) }
         ensures calls { OnOk result (is_some calls.new ≡ true) }
-        ensures refused { IfErr result (IsCallRefused P (Event.Tick processor 0)) }
+        ensures refused { IfErr result (IsProcessorCallRefused P processor) }
     {
         self.check_processor(processor)?;
         rooms_of_event(alloc, room, calls)

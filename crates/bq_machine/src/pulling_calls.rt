@@ -1,11 +1,11 @@
 //! A pull: a processor takes a task from the queue of another. Both are locked, by rising number.
-ghost use Rattle.std.specs.Prelude.{◌≡◌, ◌≢◌, ◌<◌, ℕ, None, Some, IfOk, IfErr, OnOk, OnErr, is_some, true};
+ghost use Rattle.std.specs.Prelude.{◌≡◌, ◌≢◌, ◌<◌, None, Some, IfOk, IfErr, OnOk, OnErr, is_some, true};
 ghost use Rattle.std.specs.Sync.Mutex.{mutex_guard_value};
 ghost use Rattle.bq_history.specs.Callers.{with_receipt};
 ghost use Rattle.bq_parts.specs.Refusals.{argument_refusal};
 ghost use Rattle.bq_shared.specs.Calls.{AccountMatchesReceipts};
 ghost use Rattle.bq_shared.specs.Parts.{reported_calls};
-ghost use Rattle.bq_machine.specs.Calls.{IsCallRefused};
+ghost use Rattle.bq_machine.specs.Calls.{IsCallRefused, RecordsAtReading};
 
 use crate::clock::Clock;
 use crate::machine::{LockedProcessor, Machine};
@@ -37,7 +37,7 @@ impl<Q: RunQueue + Drop, K: Clock + Drop, N: Naming + Counting, const P: usize> 
         from: u8,
     ) -> Result<Receipt<Record>, Refusal>
         ensures receipt { IfOk result (λ r. seat.new ≡ with_receipt r seat.old) }
-        ensures event { IfOk result (λ r. (now : ℕ) × K.gives processor now × (r.entry.event ≡ Event.Pull processor from now)) }
+        ensures event { IfOk result (RecordsAtReading (K.gives processor) (λ now. Event.Pull processor from now)) }
         ensures passed { IfOk result (λ _. argument_refusal P (Event.Pull processor from 0) ≡ None) }
         ensures refused { IfErr result (IsCallRefused P (Event.Pull processor from 0)) }
         ensures err { OnErr result (seat.new ≡ seat.old) }
@@ -71,7 +71,7 @@ impl<Q: RunQueue + Drop, K: Clock + Drop, N: Naming + Counting, const P: usize> 
         requires account { AccountMatchesReceipts reported_calls working.old }
         ensures caller { working.new.caller ≡ with_receipt result working.old.caller }
         ensures account { AccountMatchesReceipts reported_calls working.new }
-        ensures event { (now : ℕ) × K.gives processor now × (result.entry.event ≡ Event.Pull processor from now) }
+        ensures event { RecordsAtReading (K.gives processor) (λ now. Event.Pull processor from now) result }
     {
         // The clock is read before any lock, since both locks may be waited for. A reading below the processor's last counts
         // as the last.

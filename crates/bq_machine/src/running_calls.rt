@@ -1,9 +1,9 @@
 //! The calls at one processor: its clock ticks, the tasks of its inbox enter its queue, and its running task goes to sleep.
-ghost use Rattle.std.specs.Prelude.{◌≡◌, ◌<◌, ℕ, IfOk, IfErr, OnErr, is_some, true};
+ghost use Rattle.std.specs.Prelude.{◌≡◌, ◌<◌, IfOk, IfErr, OnErr, is_some, true};
 ghost use Rattle.bq_history.specs.Callers.{with_receipt};
 ghost use Rattle.bq_shared.specs.Calls.{AccountMatchesReceipts};
 ghost use Rattle.bq_shared.specs.Parts.{reported_calls};
-ghost use Rattle.bq_machine.specs.Calls.{IsCallRefused};
+ghost use Rattle.bq_machine.specs.Calls.{IsProcessorCallRefused, RecordsAtReading};
 
 use crate::clock::Clock;
 use crate::machine::Machine;
@@ -34,9 +34,9 @@ impl<Q: RunQueue + Drop, K: Clock + Drop, N: Naming + Counting, const P: usize> 
         processor: u8,
     ) -> Result<Receipt<Record>, Refusal>
         ensures receipt { IfOk result (λ r. seat.new ≡ with_receipt r seat.old) }
-        ensures event { IfOk result (λ r. (now : ℕ) × K.gives processor now × (r.entry.event ≡ Event.Tick processor now)) }
+        ensures event { IfOk result (RecordsAtReading (K.gives processor) (λ now. Event.Tick processor now)) }
         ensures passed { IfOk result (λ _. processor < P) }
-        ensures refused { IfErr result (IsCallRefused P (Event.Tick processor 0)) }
+        ensures refused { IfErr result (IsProcessorCallRefused P processor) }
         ensures err { OnErr result (seat.new ≡ seat.old) }
     {
         self.begin_call(
@@ -70,7 +70,7 @@ impl<Q: RunQueue + Drop, K: Clock + Drop, N: Naming + Counting, const P: usize> 
         requires account { AccountMatchesReceipts reported_calls working.old }
         ensures caller { working.new.caller ≡ with_receipt result working.old.caller }
         ensures account { AccountMatchesReceipts reported_calls working.new }
-        ensures event { (now : ℕ) × K.gives processor now × (result.entry.event ≡ Event.Tick processor now) }
+        ensures event { RecordsAtReading (K.gives processor) (λ now. Event.Tick processor now) result }
     {
         let mut guard = self.lock_processor(rt, processor);
         let cpu = &mut *guard;
@@ -100,9 +100,9 @@ impl<Q: RunQueue + Drop, K: Clock + Drop, N: Naming + Counting, const P: usize> 
         processor: u8,
     ) -> Result<Receipt<Record>, Refusal>
         ensures receipt { IfOk result (λ r. seat.new ≡ with_receipt r seat.old) }
-        ensures event { IfOk result (λ r. (now : ℕ) × K.gives processor now × (r.entry.event ≡ Event.Drain processor now)) }
+        ensures event { IfOk result (RecordsAtReading (K.gives processor) (λ now. Event.Drain processor now)) }
         ensures passed { IfOk result (λ _. processor < P) }
-        ensures refused { IfErr result (IsCallRefused P (Event.Drain processor 0)) }
+        ensures refused { IfErr result (IsProcessorCallRefused P processor) }
         ensures err { OnErr result (seat.new ≡ seat.old) }
     {
         self.begin_call(
@@ -135,7 +135,7 @@ impl<Q: RunQueue + Drop, K: Clock + Drop, N: Naming + Counting, const P: usize> 
         requires account { AccountMatchesReceipts reported_calls working.old }
         ensures caller { working.new.caller ≡ with_receipt result working.old.caller }
         ensures account { AccountMatchesReceipts reported_calls working.new }
-        ensures event { (now : ℕ) × K.gives processor now × (result.entry.event ≡ Event.Drain processor now) }
+        ensures event { RecordsAtReading (K.gives processor) (λ now. Event.Drain processor now) result }
     {
         let mut guard = self.lock_processor(rt, processor);
         let cpu = &mut *guard;
@@ -178,9 +178,9 @@ impl<Q: RunQueue + Drop, K: Clock + Drop, N: Naming + Counting, const P: usize> 
         processor: u8,
     ) -> Result<Receipt<Record>, Refusal>
         ensures receipt { IfOk result (λ r. seat.new ≡ with_receipt r seat.old) }
-        ensures event { IfOk result (λ r. (now : ℕ) × K.gives processor now × (r.entry.event ≡ Event.Block processor now)) }
+        ensures event { IfOk result (RecordsAtReading (K.gives processor) (λ now. Event.Block processor now)) }
         ensures passed { IfOk result (λ _. processor < P) }
-        ensures refused { IfErr result (IsCallRefused P (Event.Block processor 0)) }
+        ensures refused { IfErr result (IsProcessorCallRefused P processor) }
         ensures err { OnErr result (seat.new ≡ seat.old) }
     {
         self.check_processor(processor)?;
@@ -201,7 +201,7 @@ impl<Q: RunQueue + Drop, K: Clock + Drop, N: Naming + Counting, const P: usize> 
         requires account { AccountMatchesReceipts reported_calls working.old }
         ensures caller { working.new.caller ≡ with_receipt result working.old.caller }
         ensures account { AccountMatchesReceipts reported_calls working.new }
-        ensures event { (now : ℕ) × K.gives processor now × (result.entry.event ≡ Event.Block processor now) }
+        ensures event { RecordsAtReading (K.gives processor) (λ now. Event.Block processor now) result }
     {
         let mut guard = self.lock_processor(rt, processor);
         let cpu = &mut *guard;

@@ -1,18 +1,17 @@
 //! A wake: a task of the lobby comes into a processor's hand, and is placed. The processor's lock is held throughout.
-ghost use Rattle.std.specs.Prelude.{◌≡◌, ◌∷◌, ◌<◌, ◌≤◌, ◌⊎◌, [], None, Some, IfOk, IfErr, IfSome, OnOk, OnErr, is_some, true};
+ghost use Rattle.std.specs.Prelude.{◌≡◌, ◌<◌, ◌≤◌, ◌⊎◌, None, Some, IfOk, IfErr, IfSome, OnOk, OnErr, is_some, true};
 ghost use Rattle.std.specs.Option.{option_to_list, option_map};
 ghost use Rattle.bq_history.specs.Callers.{receipts_of, with_receipt, with_receipts};
-ghost use Rattle.bq_history.specs.Items.{part_item};
 ghost use Rattle.bq_hooks.specs.OwnPlace.{HasPlace};
 ghost use Rattle.bq_shared.specs.Calls.{ahead, AccountMatchesReceipts};
 ghost use Rattle.bq_parts.specs.Choices.{by_programs};
 ghost use Rattle.bq_parts.specs.Refusals.{argument_refusal};
 ghost use Rattle.bq_parts.specs.Shares.{Places};
 ghost use Rattle.bq_parts.specs.declared.refusal.Refusal.TheVariants as no;
-ghost use Rattle.bq_shared.specs.Parts.{cpu_part, reported_calls};
+ghost use Rattle.bq_shared.specs.Parts.{reported_calls};
 ghost use Rattle.bq_machine.specs.Calls.{IsCallRefused};
 ghost use Rattle.bq_machine.specs.Placing.{WasPlaced};
-ghost use Rattle.bq_machine.specs.Waking.{IsWake};
+ghost use Rattle.bq_machine.specs.Waking.{HoldsItsPart, IsWake};
 
 use crate::clock::Clock;
 use crate::machine::Machine;
@@ -148,12 +147,12 @@ impl<Q: RunQueue + Drop, K: Clock + Drop, N: Naming + Counting, const P: usize> 
         requires below { task < TASKS }
         requires ready { rooms.record.now ≡ true }
         requires account { AccountMatchesReceipts reported_calls working.old }
-        requires held { cpu.old.holder ≡ part_item (cpu_part cpu.old.content.number cpu.old.content.state) ∷ [] }
+        requires held { HoldsItsPart cpu.old }
         requires rests { cpu.old.content.state.hand ≡ None }
         ensures caller { working.new.caller ≡ with_receipt result working.old.caller }
         ensures account { AccountMatchesReceipts reported_calls working.new }
         ensures event { result.entry.event ≡ Event.BeginWake cpu.old.content.number task }
-        ensures held { cpu.new.holder ≡ part_item (cpu_part cpu.new.content.number cpu.new.content.state) ∷ [] }
+        ensures held { HoldsItsPart cpu.new }
         ensures number { cpu.new.content.number ≡ cpu.old.content.number }
         ensures hand { OnOk result.entry.reply (option_map (λ c. c.task.id) cpu.new.content.state.hand ≡ Some task) }
         ensures rests { OnErr result.entry.reply (cpu.new.content.state.hand ≡ None) }
@@ -191,13 +190,13 @@ impl<Q: RunQueue + Drop, K: Clock + Drop, N: Naming + Counting, const P: usize> 
         requires calls { is_some rooms.calls.now ≡ true }
         requires ready { rooms.record.now ≡ true }
         requires account { AccountMatchesReceipts reported_calls working.old }
-        requires held { cpu.old.holder ≡ part_item (cpu_part cpu.old.content.number cpu.old.content.state) ∷ [] }
+        requires held { HoldsItsPart cpu.old }
         requires hand { option_map (λ c. c.task.id) cpu.old.content.state.hand ≡ Some task }
         ensures caller { working.new.caller ≡ with_receipt result working.old.caller }
         ensures account { AccountMatchesReceipts reported_calls working.new }
         ensures event { result.entry.event ≡ Event.EndWake cpu.old.content.number now }
         ensures placed { WasPlaced task result.entry.reply }
-        ensures held { cpu.new.holder ≡ part_item (cpu_part cpu.new.content.number cpu.new.content.state) ∷ [] }
+        ensures held { HoldsItsPart cpu.new }
         ensures rests { cpu.new.content.state.hand ≡ None }
     {
         cpu.look(&self.recorder.history);
