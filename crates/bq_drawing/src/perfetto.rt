@@ -485,7 +485,7 @@ impl ScheduleForm for Perfetto {
     }
 
     /// Adds the events of a change, of what is shown of it.
-    fn take(
+    fn add_change(
         &mut self,
         change: &Change,
         schedule: &Schedule,

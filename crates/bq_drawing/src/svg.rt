@@ -405,7 +405,7 @@ impl ScheduleForm for Svg {
     }
 
     /// Holds what is shown of a change. The text stays as it is.
-    fn take(
+    fn add_change(
         &mut self,
         change: &Change,
         _schedule: &Schedule,

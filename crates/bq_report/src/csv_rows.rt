@@ -101,7 +101,7 @@ impl ScheduleForm for Csv {
     }
 
     /// Adds the row of the slice that was charged, if any of it is shown.
-    fn take(
+    fn add_change(
         &mut self,
         change: &Change,
         _schedule: &Schedule,

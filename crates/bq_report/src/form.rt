@@ -13,7 +13,7 @@ use std::alloc::AllocError;
 /// form.admit(task)?;
 /// // for each event and its answer:
 /// let change = schedule.add_answer(&event, &answer);
-/// form.take(&change, &schedule, &names, &mut text)?;
+/// form.add_change(&change, &schedule, &names, &mut text)?;
 /// // once the trace is over:
 /// form.end(&schedule, &names, &mut text)?;
 /// ```
@@ -31,8 +31,8 @@ pub trait ScheduleForm: Drop {
         Ok(())
     }
 
-    /// Takes what one answer changed, and the schedule after that answer.
-    fn take(
+    /// Adds what one answer changed to what the form shows. `schedule` is the schedule after that answer.
+    fn add_change(
         &mut self,
         change: &Change,
         schedule: &Schedule,

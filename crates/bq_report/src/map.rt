@@ -216,7 +216,7 @@ impl ScheduleForm for Map {
     }
 
     /// Holds the run that ends, if there is one. The text stays as it is.
-    fn take(
+    fn add_change(
         &mut self,
         change: &Change,
         _schedule: &Schedule,

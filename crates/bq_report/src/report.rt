@@ -217,7 +217,7 @@ impl ScheduleForm for Report {
     }
 
     /// Takes the latency of the start in a change, if there is one.
-    fn take(
+    fn add_change(
         &mut self,
         change: &Change,
         _schedule: &Schedule,

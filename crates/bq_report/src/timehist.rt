@@ -301,7 +301,7 @@ impl ScheduleForm for Timehist {
     }
 
     /// Adds the lines of a change, of what is shown of it.
-    fn take(
+    fn add_change(
         &mut self,
         change: &Change,
         schedule: &Schedule,

@@ -6,7 +6,7 @@ use Rattle.std.proofs.Common.{◌≡◌, ◌∙◌, ◌∷◌, ◌++◌, ℕ, Li
 use Rattle.bq_parts.specs.declared.event.Event.{Event}
 use Rattle.bq_parts.specs.declared.event.Event.TheVariants.{Admit}
 use Rattle.bq_report.specs.Names.{NamedTasks}
-use Rattle.bq_timeline.specs.FormTexts.{FormAdmits, FormHeeds}
+use Rattle.bq_timeline.specs.FormTexts.{FormAdmits, FormAdmitsTaskOf}
 use Rattle.bq_timeline.specs.ScreenTexts.{bounds_head, under_bounds_head}
 use Rattle.bq_timeline.specs.Shown.{IsAskedFor, StaysShown}
 use Rattle.bq_timeline.specs.declared.settings.Settings.{Settings}
@@ -35,12 +35,12 @@ if_ok (Ok x) now here there e = e
 if_ok (Err e) now here there h = tt
 
 -- the form is given the task of an event that admits it
-pub heeds_admit : (event : Event) (task : ℕ) (nice : ℤ) (mask slice : ℕ) (old new : Shown)
-    → event ≡ Admit task nice mask slice → FormAdmits task old new → FormHeeds event old new
-heeds_admit event task nice mask slice old new is h = rw is h
+pub admits_task : (event : Event) (task : ℕ) (nice : ℤ) (mask slice : ℕ) (old new : Shown)
+    → event ≡ Admit task nice mask slice → FormAdmits task old new → FormAdmitsTaskOf event old new
+admits_task event task nice mask slice old new is h = rw is h
 
 -- the form is given no task of another event
-pub heeds_other : (event : Event) (old : Shown) → ((task : ℕ) (nice : ℤ) (mask slice : ℕ) → event ≡ Admit task nice mask slice → ⊥)
-    → FormHeeds event old old
-heeds_other (Admit task nice mask slice) old other = absurd (other task nice mask slice refl)
-heeds_other event old other = refl
+pub admits_none : (event : Event) (old : Shown) → ((task : ℕ) (nice : ℤ) (mask slice : ℕ) → event ≡ Admit task nice mask slice → ⊥)
+    → FormAdmitsTaskOf event old old
+admits_none (Admit task nice mask slice) old other = absurd (other task nice mask slice refl)
+admits_none event old other = refl

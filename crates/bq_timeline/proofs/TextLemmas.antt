@@ -10,7 +10,7 @@ use Rattle.bq_report.specs.Names.{NamedTasks}
 use Rattle.bq_report.specs.Reports.{GrowsByPart}
 use Rattle.bq_words.specs.declared.discipline_name.DisciplineName.{DisciplineName}
 use Rattle.bq_trace.specs.TraceEvents.{TraceEvent, Reported, Opened, Skipped, Comes, Answered, NotHex, NotLoaded, ProcessorAsked, CounterRead, Bad}
-use Rattle.bq_timeline.specs.FormTexts.{FormAnswers, FormEnds, FormOpens, FormTakes}
+use Rattle.bq_timeline.specs.FormTexts.{FormAnswers, FormEnds, FormOpens, FormAddsChange}
 use Rattle.bq_timeline.specs.ScreenTexts.{BeginsText, FormEndsIf, IfShown, ScreenAnswers, ScreenBegins, ScreenEnds, ScreenState, StandsBehind}
 use Rattle.bq_timeline.specs.TraceTexts.{AnswerShows, ScreenTakes, ScreenTakesAll, TextCloses, TextEnds}
 use Rattle.bq_timeline.specs.Watching.{schedule_after, watched}
@@ -36,21 +36,21 @@ opens_behind p discipline s (form.Perfetto old) (form.Perfetto new) before after
 opens_behind p discipline s (form.Why old) (form.Why new) before after h = tt
 opens_behind p discipline s old new before after h = absurd h
 
--- a form takes a change behind another text as it does without it
-takes_behind : (p : List ℕ) (change : Change) (s : Figures) (names : NamedTasks) (old new : Shown) (before after : List ℕ)
-    → FormTakes change s names old new before after → FormTakes change s names old new (p ++ before) (p ++ after)
-takes_behind p change s names (form.Report old) (form.Report new) before after h = (h.0, h.1, h.2, ap (λ t. p ++ t) h.3)
-takes_behind p change s names (form.Map old) (form.Map new) before after h = (h.0, h.1, ap (λ t. p ++ t) h.2)
-takes_behind p change s names (form.Timehist old) (form.Timehist new) before after h =
+-- a change is added to a form behind another text as without it
+adds_behind : (p : List ℕ) (change : Change) (s : Figures) (names : NamedTasks) (old new : Shown) (before after : List ℕ)
+    → FormAddsChange change s names old new before after → FormAddsChange change s names old new (p ++ before) (p ++ after)
+adds_behind p change s names (form.Report old) (form.Report new) before after h = (h.0, h.1, h.2, ap (λ t. p ++ t) h.3)
+adds_behind p change s names (form.Map old) (form.Map new) before after h = (h.0, h.1, ap (λ t. p ++ t) h.2)
+adds_behind p change s names (form.Timehist old) (form.Timehist new) before after h =
     let lines = h.1 in
     (h.0, (lines.0, lines.1, lines.2, lines.3, lines.4, lines.5, ap (λ t. p ++ t) lines.6 ∙ sym (append_assoc p before _)))
-takes_behind p change s names (form.Csv old) (form.Csv new) before after h =
+adds_behind p change s names (form.Csv old) (form.Csv new) before after h =
     let row = h.1 in (h.0, (row.0, row.1, ap (λ t. p ++ t) row.2 ∙ sym (append_assoc p before _)))
-takes_behind p change s names (form.Json old) (form.Json new) before after h = (h.0, h.1, h.2, ap (λ t. p ++ t) h.3)
-takes_behind p change s names (form.Svg old) (form.Svg new) before after h = (h.0, h.1, ap (λ t. p ++ t) h.2)
-takes_behind p change s names (form.Perfetto old) (form.Perfetto new) before after h = (h.0, grows_behind _ p before after h.1)
-takes_behind p change s names (form.Why old) (form.Why new) before after h = tt
-takes_behind p change s names old new before after h = absurd h
+adds_behind p change s names (form.Json old) (form.Json new) before after h = (h.0, h.1, h.2, ap (λ t. p ++ t) h.3)
+adds_behind p change s names (form.Svg old) (form.Svg new) before after h = (h.0, h.1, ap (λ t. p ++ t) h.2)
+adds_behind p change s names (form.Perfetto old) (form.Perfetto new) before after h = (h.0, grows_behind _ p before after h.1)
+adds_behind p change s names (form.Why old) (form.Why new) before after h = tt
+adds_behind p change s names old new before after h = absurd h
 
 -- the form begins behind another text as it does without it
 begins_behind : (p : List ℕ) (s : Option Figures) (discipline : Option DisciplineName) (asked : Option Settings) (old new : ScreenState) (before after : List ℕ)
@@ -76,7 +76,7 @@ shows_behind : (p : List ℕ) (event : Event) (change : Change) (s : Figures) (n
     → IfShown (FormAnswers event change s names) old new before after → IfShown (FormAnswers event change s names) old new (p ++ before) (p ++ after)
 shows_behind p event change s names None new before after h = (h.0, ap (λ t. p ++ t) h.1)
 shows_behind p event change s names (Some old) (Some new) before after h =
-    record { given = h.given; heeds = h.heeds; takes = takes_behind p change s names h.given new before after h.takes }
+    record { given = h.given; admits = h.admits; adds = adds_behind p change s names h.given new before after h.adds }
 shows_behind p event change s names (Some old) None before after h = absurd h
 
 -- an answer is shown behind another text as it is without it

@@ -58,46 +58,46 @@ FormOpens discipline s (form.Perfetto old) (form.Perfetto new) before after =
 FormOpens discipline s (form.Why old) (form.Why new) before after = Unit {0}
 FormOpens discipline s old new before after = ⊥
 
--- A task is admitted. The map and the picture give it the next letter or colour. No other form heeds it.
+-- A task is admitted. The map and the picture give it the next letter or colour. No other form uses it.
 abbrev pub FormAdmits : ℕ → Shown → Shown → Type 0
 FormAdmits task (form.Map old) new = new ≡ form.Map (record old { admitted = with_admitted task old.admitted })
 FormAdmits task (form.Svg old) new = new ≡ form.Svg (record old { admitted = with_admitted task old.admitted })
 FormAdmits task old new = new ≡ old
 
 -- The form is given the task of an event that admits one.
-abbrev pub FormHeeds : Event → Shown → Shown → Type 0
-FormHeeds (Admit task nice mask slice) old new = FormAdmits task old new
-FormHeeds event old new = new ≡ old
+abbrev pub FormAdmitsTaskOf : Event → Shown → Shown → Type 0
+FormAdmitsTaskOf (Admit task nice mask slice) old new = FormAdmits task old new
+FormAdmitsTaskOf event old new = new ≡ old
 
--- A form takes a change, and the schedule after it: it and its text, before and after.
-abbrev pub FormTakes : Change → Figures → NamedTasks → Shown → Shown → List ℕ → List ℕ → Type 0
-FormTakes change s names (form.Report old) (form.Report new) before after =
+-- A change is added to a form, with the schedule after it: the form and its text, before and after.
+abbrev pub FormAddsChange : Change → Figures → NamedTasks → Shown → Shown → List ℕ → List ℕ → Type 0
+FormAddsChange change s names (form.Report old) (form.Report new) before after =
     TakesStart change.start old.latencies new.latencies × (new.window ≡ old.window) × (new.missed ≡ old.missed) × (after ≡ before)
-FormTakes change s names (form.Map old) (form.Map new) before after =
+FormAddsChange change s names (form.Map old) (form.Map new) before after =
     RowsHold old.window change.run old.rows.items new.rows.items × KeepsLook old new × (after ≡ before)
-FormTakes change s names (form.Timehist old) (form.Timehist new) before after =
+FormAddsChange change s names (form.Timehist old) (form.Timehist new) before after =
     (new ≡ old)
     × ((wake : Option Wake) × (stop : Option Stop) × (migration : Option Start)
     × IsShownWake old change.wake wake × IsShownStop old change.stop stop × IsShownMigration old change.start migration
     × (after ≡ before ++ change_text names s wake stop migration))
-FormTakes change s names (form.Csv old) (form.Csv new) before after =
+FormAddsChange change s names (form.Csv old) (form.Csv new) before after =
     (new ≡ old)
     × ((part : Option Slice) × IsShownPart old change.slice part × (after ≡ before ++ optional_slice_row part))
-FormTakes change s names (form.Json old) (form.Json new) before after =
+FormAddsChange change s names (form.Json old) (form.Json new) before after =
     TakesStart change.start old.latencies new.latencies × (new.window ≡ old.window) × (new.missed ≡ old.missed) × (after ≡ before)
-FormTakes change s names (form.Svg old) (form.Svg new) before after =
+FormAddsChange change s names (form.Svg old) (form.Svg new) before after =
     HoldsChange old.window change old.stops.entries new.stops.entries old.drawing new.drawing
     × (new ≡ record old { drawing = new.drawing; stops = new.stops }) × (after ≡ before)
-FormTakes change s names (form.Perfetto old) (form.Perfetto new) before after =
+FormAddsChange change s names (form.Perfetto old) (form.Perfetto new) before after =
     (new.window ≡ old.window) × GrowsByPart (IsPerfettoOf old.window names s change old.history new.history) before after
-FormTakes change s names (form.Why old) (form.Why new) before after = Unit {0}
-FormTakes change s names old new before after = ⊥
+FormAddsChange change s names (form.Why old) (form.Why new) before after = Unit {0}
+FormAddsChange change s names old new before after = ⊥
 
 -- An event was done. The form is given its task, if it admits one, and then what it changed.
 pub record FormAnswers (event : Event) (change : Change) (s : Figures) (names : NamedTasks) (old new : Shown) (before after : List ℕ) : Type 0 where
   pub given : Shown
-  pub heeds : FormHeeds event old given
-  pub takes : FormTakes change s names given new before after
+  pub admits : FormAdmitsTaskOf event old given
+  pub adds : FormAddsChange change s names given new before after
 
 -- A form ends, with the schedule of the whole trace: its text before and after.
 abbrev pub FormEnds : Figures → NamedTasks → Shown → List ℕ → List ℕ → Type 0

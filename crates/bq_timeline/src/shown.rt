@@ -1,6 +1,6 @@
 //! All forms as one type.
 ghost use Rattle.std.specs.Prelude.{OnOk, string_bytes};
-ghost use Rattle.bq_timeline.specs.FormTexts.{FormAdmits, FormAnswers, FormEnds, FormOpens, FormTakes, IsEmptyForm};
+ghost use Rattle.bq_timeline.specs.FormTexts.{FormAdmits, FormAnswers, FormEnds, FormOpens, FormAddsChange, IsEmptyForm};
 ghost use Rattle.bq_timeline.specs.Shown.{ShowsForm, StaysShown};
 
 use crate::form_names::FormName;
@@ -91,8 +91,8 @@ impl Shown {
         }
     }
 
-    /// Takes what an event changed. `why` is written from the machine.
-    fn take(
+    /// Adds what an event changed to the form. `why` is written from the machine.
+    fn add_change(
         &mut self,
         done: &Occurrence<'_>,
         machine: &AnyCore,
@@ -100,21 +100,21 @@ impl Shown {
         names: &Names,
         text: &mut String,
     ) -> Result<(), AllocError>
-        ensures { OnOk result (FormTakes done.now.change.now schedule.now names.now self.old self.new (string_bytes text.old) (string_bytes text.new)) }
+        ensures { OnOk result (FormAddsChange done.now.change.now schedule.now names.now self.old self.new (string_bytes text.old) (string_bytes text.new)) }
     {
         match self {
-            Shown::Report(form) => form.take(done.change, schedule, names, text),
-            Shown::Map(form) => form.take(done.change, schedule, names, text),
-            Shown::Timehist(form) => form.take(done.change, schedule, names, text),
-            Shown::Csv(form) => form.take(done.change, schedule, names, text),
-            Shown::Json(form) => form.take(done.change, schedule, names, text),
-            Shown::Svg(form) => form.take(done.change, schedule, names, text),
-            Shown::Perfetto(form) => form.take(done.change, schedule, names, text),
+            Shown::Report(form) => form.add_change(done.change, schedule, names, text),
+            Shown::Map(form) => form.add_change(done.change, schedule, names, text),
+            Shown::Timehist(form) => form.add_change(done.change, schedule, names, text),
+            Shown::Csv(form) => form.add_change(done.change, schedule, names, text),
+            Shown::Json(form) => form.add_change(done.change, schedule, names, text),
+            Shown::Svg(form) => form.add_change(done.change, schedule, names, text),
+            Shown::Perfetto(form) => form.add_change(done.change, schedule, names, text),
             Shown::Why(form) => form.after_event(done, machine, names, text),
         }
     }
 
-    /// Takes an event that was done: the task that it admits, if it admits one, and then what it changed.
+    /// Adds an event that was done to the form: the task that it admits, if it admits one, and then what it changed.
     pub fn after_event(
         &mut self,
         done: &Occurrence<'_>,
@@ -129,7 +129,7 @@ impl Shown {
         if let Event::Admit { task, .. } = done.event {
             self.admit(*task)?;
         }
-        self.take(done, machine, schedule, names, text)
+        self.add_change(done, machine, schedule, names, text)
     }
 
     /// Ends the form, with the schedule of the whole trace.

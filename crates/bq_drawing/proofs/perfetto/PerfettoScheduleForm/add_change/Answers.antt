@@ -2,7 +2,7 @@ use Rattle.std.proofs.Common.{ap}
 use Rattle.std.proofs.lemmas.Result.{on_ok_weaker}
 use Rattle.bq_drawing.specs.declared.perfetto.Perfetto.{Perfetto}
 use Rattle.bq_drawing.proofs.PerfettoLemmas.{events_added}
-use Rattle.bq_drawing.proofs.perfetto.PerfettoScheduleForm.take.Goals as goal
+use Rattle.bq_drawing.proofs.perfetto.PerfettoScheduleForm.add_change.Goals as goal
 
 pub returns-clause-events : goal.returns-clause-events
 returns-clause-events c =

@@ -3,7 +3,7 @@ use Rattle.std.proofs.lemmas.Result.{on_ok_weaker}
 use Rattle.bq_drawing.specs.declared.svg.Svg.{Svg}
 use Rattle.bq_drawing.specs.Holdings.{HoldsChange, Stops}
 use Rattle.bq_drawing.proofs.PictureLemmas.{change_held}
-use Rattle.bq_drawing.proofs.svg.SvgScheduleForm.take.Goals as goal
+use Rattle.bq_drawing.proofs.svg.SvgScheduleForm.add_change.Goals as goal
 
 pub returns-clause-held : goal.returns-clause-held
 returns-clause-held c =
