@@ -11,13 +11,18 @@ use Rattle.bq_report.specs.declared.map_row.Column.TheVariants.{Task, Hidden}
 use Rattle.bq_report.specs.declared.window.Window.{Window}
 use Rattle.bq_report.specs.MapRows.{RunsRow}
 use Rattle.bq_report.specs.Maps.{DrawnRow, IsDrawnRow, RunsIn, all_columns, all_runs, rows_text}
-use Rattle.bq_report.specs.Reports.{AreParts}
+use Rattle.bq_report.specs.Reports.{AreParts, GrowsByPart}
 
 -- the legend has the tasks that run in the extent and those that columns show, and knows whether a column shows hidden ones
 pub record Notes (e : Extent) (runs : List Slice) (columns : List Column) (l : Legend) : Type 0 where
   pub ran : (task : ℕ) → IsTrue (contains nat_cmp l.ran task) ↔ RunsIn e runs task
   pub tasks : (task : ℕ) → IsTrue (contains nat_cmp l.tasks task) ↔ Contains columns (Task task)
   pub hidden : IsTrue l.has_hidden ↔ Contains columns Hidden
+
+-- a text has grown by a part like this, whichever extent, runs and columns the legend has noted
+abbrev pub GrowsAsNoted : Legend → (Extent → List Slice → List Column → List ℕ → Type 0) → List ℕ → List ℕ → Type 0
+GrowsAsNoted l IsLike old new =
+    (extent : Extent) → (runs : List Slice) → (columns : List Column) → Notes extent runs columns l → GrowsByPart (IsLike extent runs columns) old new
 
 -- the legend has noted these runs and columns too
 abbrev pub NotesMore : Extent → List Slice → List Column → Legend → Legend → Type 0

@@ -10,6 +10,7 @@ use Rattle.bq_report.specs.declared.amounts.Unit.{Unit}
 use Rattle.bq_report.specs.declared.amounts.Unit.TheVariants.{Microseconds, Milliseconds}
 use Rattle.bq_report.specs.declared.extent.Extent.{Extent}
 use Rattle.bq_report.specs.declared.grid.Grid.{Grid}
+use Rattle.bq_report.specs.declared.map.Map.{Map}
 use Rattle.bq_report.specs.declared.map_row.Column.{Column}
 use Rattle.bq_report.specs.declared.map_row.Column.TheVariants.{Task, Hidden, Idle}
 use Rattle.bq_report.specs.declared.window.Window.{Window}
@@ -24,6 +25,10 @@ use Rattle.bq_report.specs.Steps.{covers, round_steps}
 use Rattle.bq_report.specs.Windows.{ShowsProcessor, ShowsTask, part_in_window}
 
 -- ---- what it holds
+
+-- the map has the same window, width and letters as before
+abbrev pub KeepsSettings : Map → Map → Type 0
+KeepsSettings old new = (new.window ≡ old.window) × (new.width ≡ old.width) × (new.admitted ≡ old.admitted)
 
 -- a part of a run is held: it is inside the window and its processor is shown, whether its task is shown or not
 pub record IsHeld (w : Window) (s : Slice) : Type 0 where

@@ -3,7 +3,7 @@ ghost use Rattle.std.specs.Prelude.{◌≡◌, ◌<◌, ◌++◌, ◌∷◌, [],
 ghost use Rattle.bq_schedule.specs.declared.slice.Slice.{Slice};
 ghost use Rattle.bq_report.specs.declared.extent.Extent.{Extent};
 ghost use Rattle.bq_report.specs.declared.map_row.Column.{Column};
-ghost use Rattle.bq_report.specs.Legends.{Notes, NotesMore};
+ghost use Rattle.bq_report.specs.Legends.{GrowsAsNoted, Notes, NotesMore};
 ghost use Rattle.bq_report.specs.Maps.{IsColumnNote, IsHiddenNote, IsLegend, IsLegendLine, IsLineOfTask, RunsIn, behind_task, column_sign, letter_at, letter_if, lettered_task};
 ghost use Rattle.bq_report.specs.Names.{name_of};
 ghost use Rattle.bq_report.specs.Reports.{GrowsByPart, AreParts, IsPartIf};
@@ -128,8 +128,8 @@ impl Legend {
 
     /// Adds what the sign of hidden tasks means, if a column has that sign.
     fn write_hidden(&self, text: &mut String) -> Result<(), AllocError>
-        ensures { OnOk result ((extent : Extent) → (runs : List Slice) → (columns : List Column) → Notes extent runs columns self.now
-            → GrowsByPart (IsHiddenNote columns) (string_bytes text.old) (string_bytes text.new)) }
+        ensures { OnOk result (GrowsAsNoted self.now (λ extent runs columns. IsHiddenNote columns)
+            (string_bytes text.old) (string_bytes text.new)) }
     {
         if !self.has_hidden {
             return Ok(());
@@ -139,8 +139,8 @@ impl Legend {
 
     /// Adds the lines of the tasks that run in the time that is shown, in the order of their letters.
     fn write_lines(&self, tasks: &[u16], names: &Names, text: &mut String) -> Result<(), AllocError>
-        ensures { OnOk result ((extent : Extent) → (runs : List Slice) → (columns : List Column) → Notes extent runs columns self.now
-            → GrowsByPart (AreParts (IsLegendLine names.now tasks.now extent runs columns) (length tasks.now)) (string_bytes text.old) (string_bytes text.new)) }
+        ensures { OnOk result (GrowsAsNoted self.now (λ extent runs columns. AreParts (IsLegendLine names.now tasks.now extent runs columns) (length tasks.now))
+            (string_bytes text.old) (string_bytes text.new)) }
     {
         for place in 0..tasks.len() {
             self.write_line_if(place, tasks[place], names, text)?;
@@ -156,8 +156,8 @@ impl Legend {
         names: &Names,
         text: &mut String,
     ) -> Result<(), AllocError>
-        ensures { OnOk result ((extent : Extent) → (runs : List Slice) → (columns : List Column) → Notes extent runs columns self.now
-            → GrowsByPart (IsPartIf ℕ (RunsIn extent runs task) (IsLineOfTask names.now columns place task)) (string_bytes text.old) (string_bytes text.new)) }
+        ensures { OnOk result (GrowsAsNoted self.now (λ extent runs columns. IsPartIf ℕ (RunsIn extent runs task) (IsLineOfTask names.now columns place task))
+            (string_bytes text.old) (string_bytes text.new)) }
     {
         if !self.ran.contains(&task) {
             return Ok(());
@@ -173,8 +173,8 @@ impl Legend {
         names: &Names,
         text: &mut String,
     ) -> Result<(), AllocError>
-        ensures { OnOk result ((extent : Extent) → (runs : List Slice) → (columns : List Column) → Notes extent runs columns self.now
-            → GrowsByPart (IsLineOfTask names.now columns place task) (string_bytes text.old) (string_bytes text.new)) }
+        ensures { OnOk result (GrowsAsNoted self.now (λ extent runs columns. IsLineOfTask names.now columns place task)
+            (string_bytes text.old) (string_bytes text.new)) }
     {
         write_task(place, task, names, text)?;
         self.write_note(task, text)?;
@@ -183,8 +183,8 @@ impl Legend {
 
     /// Adds a note if a task appears in no column.
     fn write_note(&self, task: u16, text: &mut String) -> Result<(), AllocError>
-        ensures { OnOk result ((extent : Extent) → (runs : List Slice) → (columns : List Column) → Notes extent runs columns self.now
-            → GrowsByPart (IsColumnNote columns task) (string_bytes text.old) (string_bytes text.new)) }
+        ensures { OnOk result (GrowsAsNoted self.now (λ extent runs columns. IsColumnNote columns task)
+            (string_bytes text.old) (string_bytes text.new)) }
     {
         if self.tasks.contains(&task) {
             return Ok(());

@@ -2,7 +2,7 @@
 ghost use Rattle.std.specs.Prelude.{◌≡◌, ◌++◌, ◌∷◌, [], ℕ, List, length, replicate, OnOk, OnErr, IfOk, string_bytes};
 ghost use Rattle.bq_report.specs.Legends.{DrawsRows};
 ghost use Rattle.bq_report.specs.MapRows.{RunsRow};
-ghost use Rattle.bq_report.specs.Maps.{DrawnRow, RowsHold, HoldsLast, HoldsPart, IsDrawn, IsDrawnBy, IsDrawnRow, IsHeldPart, IsMap, all_columns, columns_in, empty_map_row, map_row_text, rows_text, step_over};
+ghost use Rattle.bq_report.specs.Maps.{DrawnRow, RowsHold, HoldsLast, HoldsPart, IsDrawn, IsDrawnBy, IsDrawnRow, IsHeldPart, IsMap, KeepsSettings, all_columns, columns_in, empty_map_row, map_row_text, rows_text, step_over};
 ghost use Rattle.bq_report.specs.Reports.{GrowsByPart, AreParts};
 ghost use Rattle.bq_report.specs.AdmittedTasks.{with_admitted};
 
@@ -52,7 +52,7 @@ impl Map {
     fn hold(&mut self, run: Option<Slice>) -> Result<(), AllocError>
         ensures ok { OnOk result (RowsHold self.old.window run self.old.rows.items self.new.rows.items) }
         ensures fault { OnErr result (self.new.rows.items ≡ self.old.rows.items) }
-        ensures unchanged { (self.new.window ≡ self.old.window) × (self.new.width ≡ self.old.width) × (self.new.admitted ≡ self.old.admitted) }
+        ensures unchanged { KeepsSettings self.old self.new }
     {
         match held_part(self.alloc, &self.window, run) {
             Some(run) => hold_part(&self.window, run, &mut self.rows),
@@ -63,7 +63,7 @@ impl Map {
     /// Holds the last run of each processor, which may still go on when the schedule ends.
     fn hold_last(&mut self, schedule: &Schedule) -> Result<(), AllocError>
         ensures rows { OnOk result (HoldsLast self.old.window schedule.now PROCESSORS self.old.rows.items self.new.rows.items) }
-        ensures unchanged { (self.new.window ≡ self.old.window) × (self.new.width ≡ self.old.width) × (self.new.admitted ≡ self.old.admitted) }
+        ensures unchanged { KeepsSettings self.old self.new }
     {
         for number in 0..PROCESSORS {
             self.hold(schedule.processor(number).run)?;
@@ -202,7 +202,7 @@ impl ScheduleForm for Map {
     ) -> Result<(), AllocError>
         ensures rows { OnOk result (self.new.rows.items ≡ self.old.rows.items ++ replicate (length schedule.now.processors) empty_map_row) }
         ensures none { string_bytes text.new ≡ string_bytes text.old }
-        ensures unchanged { (self.new.window ≡ self.old.window) × (self.new.width ≡ self.old.width) × (self.new.admitted ≡ self.old.admitted) }
+        ensures unchanged { KeepsSettings self.old self.new }
     {
         add_rows(self.alloc, schedule.processors(), &mut self.rows)
     }
@@ -226,7 +226,7 @@ impl ScheduleForm for Map {
         ensures ok { OnOk result (RowsHold self.old.window change.now.run self.old.rows.items self.new.rows.items) }
         ensures fault { OnErr result (self.new.rows.items ≡ self.old.rows.items) }
         ensures none { string_bytes text.new ≡ string_bytes text.old }
-        ensures unchanged { (self.new.window ≡ self.old.window) × (self.new.width ≡ self.old.width) × (self.new.admitted ≡ self.old.admitted) }
+        ensures unchanged { KeepsSettings self.old self.new }
     {
         self.hold(change.run)
     }

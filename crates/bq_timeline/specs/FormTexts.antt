@@ -11,9 +11,8 @@ use Rattle.bq_schedule.specs.declared.change.Wake.{Wake}
 use Rattle.bq_schedule.specs.declared.slice.Slice.{Slice}
 use Rattle.bq_schedule.specs.Figures.{Figures}
 use Rattle.bq_schedule.specs.WakeLatencies.{TakesStart, latencies_of}
-use Rattle.bq_report.specs.declared.map.Map.{Map}
 use Rattle.bq_report.specs.MapRows.{RunsRow}
-use Rattle.bq_report.specs.Maps.{HoldsLast, IsMap, RowsHold, empty_map_row}
+use Rattle.bq_report.specs.Maps.{HoldsLast, IsMap, KeepsSettings, RowsHold, empty_map_row}
 use Rattle.bq_report.specs.Names.{NamedTasks}
 use Rattle.bq_report.specs.Reports.{GrowsByPart, IsJsonReport, IsReport}
 use Rattle.bq_report.specs.AdmittedTasks.{with_admitted}
@@ -29,10 +28,6 @@ use Rattle.bq_drawing.specs.Pictures.{IsPictureOf}
 use Rattle.bq_timeline.specs.declared.shown.Shown.{Shown}
 use Rattle.bq_timeline.specs.declared.shown.Shown.TheVariants as form
 
--- the map has the same window, width and letters as before
-abbrev pub KeepsLook : Map → Map → Type 0
-KeepsLook old new = (new.window ≡ old.window) × (new.width ≡ old.width) × (new.admitted ≡ old.admitted)
-
 -- A form to which nothing has happened: a map of this width, a picture of this look.
 abbrev pub IsEmptyForm : ℕ → Look → Shown → Type 0
 IsEmptyForm width look (form.Report r) = ((task : ℕ) → latencies_of r.latencies task ≡ []) × (r.missed ≡ 0)
@@ -47,7 +42,7 @@ IsEmptyForm width look other = Unit {0}
 abbrev pub FormOpens : DisciplineName → Figures → Shown → Shown → List ℕ → List ℕ → Type 0
 FormOpens discipline s (form.Report old) (form.Report new) before after = (new ≡ old) × (after ≡ before)
 FormOpens discipline s (form.Map old) (form.Map new) before after =
-    (new.rows.items ≡ old.rows.items ++ replicate (length s.processors) empty_map_row) × KeepsLook old new × (after ≡ before)
+    (new.rows.items ≡ old.rows.items ++ replicate (length s.processors) empty_map_row) × KeepsSettings old new × (after ≡ before)
 FormOpens discipline s (form.Timehist old) (form.Timehist new) before after = (new ≡ old) × (after ≡ before ++ head_lines)
 FormOpens discipline s (form.Csv old) (form.Csv new) before after = (new ≡ old) × (after ≡ before ++ head_row)
 FormOpens discipline s (form.Json old) (form.Json new) before after = (new ≡ old) × (after ≡ before)
@@ -74,7 +69,7 @@ abbrev pub FormAddsChange : Change → Figures → NamedTasks → Shown → Show
 FormAddsChange change s names (form.Report old) (form.Report new) before after =
     TakesStart change.start old.latencies new.latencies × (new.window ≡ old.window) × (new.missed ≡ old.missed) × (after ≡ before)
 FormAddsChange change s names (form.Map old) (form.Map new) before after =
-    RowsHold old.window change.run old.rows.items new.rows.items × KeepsLook old new × (after ≡ before)
+    RowsHold old.window change.run old.rows.items new.rows.items × KeepsSettings old new × (after ≡ before)
 FormAddsChange change s names (form.Timehist old) (form.Timehist new) before after =
     (new ≡ old)
     × ((wake : Option Wake) × (stop : Option Stop) × (migration : Option Start)
