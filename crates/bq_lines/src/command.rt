@@ -1,11 +1,11 @@
-//! What the lines of a trace may ask.
+//! The commands of a trace's lines.
 
 use crate::hex_word::HexWord;
 use bq_hooks::Hook;
 use bq_parts::Event;
 use bq_words::{DisciplineName, ProcessorCount};
 
-/// What a line may ask. An image stays in the bytes of its line.
+/// A command, which is what a line asks of the trace's machine. An image stays in the bytes of its line.
 #[derive(Drop)]
 pub enum LineCommand<'a> {
     /// A machine is made.
@@ -38,13 +38,13 @@ pub enum LineCommand<'a> {
     },
 }
 
-/// What a line is.
+/// The reading of a line: a command, nothing, or a line that is not of the format.
 #[derive(Drop)]
 pub enum LineReading<'a> {
     /// The line has no words, or is a comment.
     Skipped,
     /// The line is not of the format.
     Bad,
-    /// The line asks for this.
+    /// The line asks for this command.
     Asks(LineCommand<'a>),
 }

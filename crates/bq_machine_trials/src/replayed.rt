@@ -7,7 +7,7 @@ use bq_hooks::Hook;
 use bq_parts::{Cpu, Event, Refusal, Reply};
 use bq_recording::Closed;
 use bq_shared::copy_event;
-use bq_trace::shows::write_processor;
+use bq_trace::processor_line::write_processor;
 use std::alloc::Global;
 use std::process::Abort;
 

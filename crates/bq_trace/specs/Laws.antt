@@ -1,4 +1,4 @@
--- Laws of the definitions.
+-- Laws of a trace that comes in pieces.
 use Rattle.std.specs.Prelude.{ℕ, List, ◌++◌}
 use Rattle.bq_trace.specs.Feeding.{Continues}
 use Rattle.bq_trace.specs.declared.trace_position.TracePosition.{TracePosition}

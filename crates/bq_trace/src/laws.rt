@@ -1,4 +1,4 @@
-//! Laws of the definitions.
+//! Laws of a trace that comes in pieces.
 ghost use Rattle.bq_trace.specs.Laws.{TracePiecesJoin};
 ghost use Rattle.bq_trace.specs.Sessions.{SessionAnswers};
 

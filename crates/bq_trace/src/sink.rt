@@ -4,7 +4,7 @@ ghost use Rattle.bq_trace.specs.TraceEvents.{TraceEvent as Traced, text_of};
 ghost use Rattle.bq_trace.specs.Borrowed.{event_of};
 
 use crate::loading::write_fault;
-use crate::shows::write_shown;
+use crate::processor_line::write_shown;
 use crate::texts::{write_answer, write_bad, write_counter};
 use crate::trace_event::TraceEvent;
 use std::alloc::AllocError;

@@ -1,7 +1,7 @@
 use Rattle.std.proofs.Common.{◌≡◌}
 use Rattle.bq_streams.specs.Counts.{counted_inner, call_count, failures_of, HasCounted}
 use Rattle.bq_trace.proofs.ReplayLemmas.{Underway}
-use Rattle.bq_trace.proofs.pieces.replay.Given as goal
+use Rattle.bq_trace.proofs.whole_trace.replay.Given as goal
 
 -- nothing has failed, each turn was a read, and what was read is answered
 abbrev pub invariant-loop : goal.invariant-loop

@@ -5,7 +5,7 @@ use Rattle.std.proofs.lemmas.Result.{IfOk-weaker, on_err_weaker}
 use Rattle.bq_streams.specs.Counts.{counted_inner}
 use Rattle.bq_streams.proofs.ResultLemmas.{OnErr-anyhow}
 use Rattle.bq_trace.proofs.ReplayLemmas.{Underway-none, Underway-more, Underway-ends, Underway-breaks, Underway-stops}
-use Rattle.bq_trace.proofs.pieces.replay.Goals as goal
+use Rattle.bq_trace.proofs.whole_trace.replay.Goals as goal
 
 pub returns-in_err-count-clause-part : goal.returns-in_err-count-clause-part
 returns-in_err-count-clause-part g c = OnErr-anyhow _ (Underway-stops _ _ _ _ _ _ c.loop.invariant.so_far c.in_err-count.ensures.bytes)

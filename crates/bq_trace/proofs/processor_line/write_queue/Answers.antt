@@ -3,7 +3,7 @@ use Rattle.std.specs.Prelude.{string_bytes}
 use Rattle.bq_trace.specs.Texts.{spaced_entities}
 use Rattle.bq_trace.proofs.QueueWalkLemmas.{rest_after-none}
 use Rattle.bq_trace.proofs.ShowLemmas.{writes_next, fewer_to_come, writes_all}
-use Rattle.bq_trace.proofs.shows.write_queue.Goals as goal
+use Rattle.bq_trace.proofs.processor_line.write_queue.Goals as goal
 
 pub loop-node-init : goal.loop-node-init
 loop-node-init g c = ap (λ l. string_bytes c.args.text.now ++ spaced_entities l) (rest_after-none c.args.cpu.now.running.queue)

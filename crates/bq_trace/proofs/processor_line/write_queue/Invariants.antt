@@ -2,7 +2,7 @@ use Rattle.std.proofs.Common.{◌≡◌, ◌++◌, length}
 use Rattle.std.specs.Prelude.{string_bytes}
 use Rattle.bq_trace.specs.Texts.{spaced_entities}
 use Rattle.bq_trace.proofs.QueueWalkLemmas.{rest_after}
-use Rattle.bq_trace.proofs.shows.write_queue.Given as goal
+use Rattle.bq_trace.proofs.processor_line.write_queue.Given as goal
 
 -- what is written and what is still to come are the whole
 abbrev pub invariant-loop-node : goal.invariant-loop-node
