@@ -1,8 +1,8 @@
 //! A timeline of a whole trace, from any reader to any writer.
-ghost use Rattle.std.specs.Prelude.{◌≡◌, ℕ, List, [], IfOk, IfErr, OnOk, string_bytes};
-ghost use Rattle.bq_lines.specs.Kept.{KeepsLine};
+ghost use Rattle.std.specs.Prelude.{◌≡◌, [], IfOk, IfErr, OnOk, string_bytes};
 ghost use Rattle.bq_streams.specs.Counts.{counted_inner, call_count, failures_of};
 ghost use Rattle.bq_streams.specs.Faults.{IsStreamFault, IsWriteFault};
+ghost use Rattle.bq_trace.specs.Feeding.{ForBegunLine};
 ghost use Rattle.bq_trace.specs.Reporting.{ReportsPiece};
 ghost use Rattle.bq_trace.specs.Trace.{opening_progress};
 ghost use Rattle.bq_timeline.specs.ScreenTexts.{state_of};
@@ -99,9 +99,9 @@ impl Showing {
         output: &mut Counted<W>,
         errors: &mut E,
     ) -> Result<(), StreamFault>
-        ensures reported { OnOk result ((begun : List ℕ) → KeepsLine self.old.position.begun begun
-            → WatchesAndWrites self.old.viewer self.new.viewer (W.contents (counted_inner output.old)) (W.contents (counted_inner output.new))
-            (λ reported. ReportsPiece self.old.position begun piece.now reported self.new.position)) }
+        ensures reported { OnOk result (ForBegunLine self.old.position (λ begun.
+            WatchesAndWrites self.old.viewer self.new.viewer (W.contents (counted_inner output.old)) (W.contents (counted_inner output.new))
+            (λ reported. ReportsPiece self.old.position begun piece.now reported self.new.position))) }
         ensures empty { OnOk result (string_bytes self.new.viewer.screen.text ≡ []) }
         ensures unchanged { OnOk result (failures_of output.new ≡ failures_of output.old) }
         ensures fault { IfErr result (λ e. IsWriteFault e (failures_of output.old) (failures_of output.new)) }
@@ -117,8 +117,8 @@ impl Showing {
 
     /// The trace is over: writes what is left, and answers the last notes.
     fn finish<W: Write>(&mut self, output: &mut Counted<W>) -> Result<Outcome, StreamFault>
-        ensures reported { IfOk result (λ outcome. (begun : List ℕ) → KeepsLine self.old.position.begun begun
-            → Closes self.old begun (W.contents (counted_inner output.old)) (W.contents (counted_inner output.new)) outcome) }
+        ensures reported { IfOk result (λ outcome. ForBegunLine self.old.position (λ begun.
+            Closes self.old begun (W.contents (counted_inner output.old)) (W.contents (counted_inner output.new)) outcome)) }
         ensures unchanged { OnOk result (failures_of output.new ≡ failures_of output.old) }
         ensures fault { IfErr result (λ e. IsWriteFault e (failures_of output.old) (failures_of output.new)) }
     {

@@ -12,6 +12,10 @@ use Rattle.bq_trace.specs.declared.trace_position.TracePosition.{TracePosition}
 abbrev pub with_feeds : List (List ℕ) → List ℕ
 with_feeds ended = flat_map (λ line. line ++ 10 ∷ []) ended
 
+-- whatever the bytes are of the line that has begun, this holds of them
+abbrev pub ForBegunLine : TracePosition → (List ℕ → Type 0) → Type 0
+ForBegunLine s Holds = (begun : List ℕ) → KeepsLine s.begun begun → Holds begun
+
 -- The piece continues the line that has begun. The text answers the lines that end in the piece, and the rest begins the next line.
 pub record Continues (s : TracePosition) (begun piece text : List ℕ) (t : TracePosition) : Type 0 where
   pub ended : List (List ℕ)

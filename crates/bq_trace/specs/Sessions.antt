@@ -2,8 +2,7 @@
 use Rattle.std.specs.Prelude.{◌≡◌, ℕ, Bool, List, [], ◌∷◌, Option, Some}
 use Rattle.std.specs.List.{flat_map}
 use Rattle.std.specs.Io.KnownBytes.{Appends}
-use Rattle.bq_lines.specs.Kept.{KeepsLine}
-use Rattle.bq_trace.specs.Feeding.{Feeds, Finishes}
+use Rattle.bq_trace.specs.Feeding.{Feeds, Finishes, ForBegunLine}
 use Rattle.bq_trace.specs.Trace.{TraceText, opening_progress}
 use Rattle.bq_trace.specs.declared.trace_position.TracePosition.{TracePosition}
 
@@ -11,11 +10,11 @@ use Rattle.bq_trace.specs.declared.trace_position.TracePosition.{TracePosition}
 abbrev pub IsFed : TracePosition → List (List ℕ) → TracePosition → Option (List ℕ) → Option (List ℕ) → Type 0
 IsFed s [] t old new = (t ≡ s) × (new ≡ old)
 IsFed s (piece ∷ pieces) t old new =
-    (mid : TracePosition) × (now : Option (List ℕ)) × ((begun : List ℕ) → KeepsLine s.begun begun → Feeds s begun piece mid old now) × IsFed mid pieces t now new
+    (mid : TracePosition) × (now : Option (List ℕ)) × ForBegunLine s (λ begun. Feeds s begun piece mid old now) × IsFed mid pieces t now new
 
 -- A session is finished, and the finish does what its contract says.
 abbrev pub IsFinished : TracePosition → Option (List ℕ) → Option (List ℕ) → Bool → Type 0
-IsFinished s old new clean = (begun : List ℕ) → KeepsLine s.begun begun → Finishes s begun old new clean
+IsFinished s old new clean = ForBegunLine s (λ begun. Finishes s begun old new clean)
 
 -- all pieces in one
 abbrev pub pieces_joined : List (List ℕ) → List ℕ

@@ -1,8 +1,7 @@
 //! A replay of a trace that comes in pieces.
-ghost use Rattle.std.specs.Prelude.{◌≡◌, ℕ, List, [], IfOk, IfErr, OnOk, OnErr, Some};
+ghost use Rattle.std.specs.Prelude.{◌≡◌, [], IfOk, IfErr, OnOk, OnErr, Some};
 ghost use Rattle.bq_streams.specs.Counts.{counted_inner, failures_of};
 ghost use Rattle.bq_streams.specs.Faults.{IsWriteFault};
-ghost use Rattle.bq_lines.specs.Kept.{KeepsLine};
 
 use crate::trace_position::TracePosition;
 use bq_streams::{Counted, StreamFault};
@@ -51,7 +50,7 @@ impl Model for Session {
 
 impl Session {
     ghost use Rattle.bq_trace.specs.Trace.{opening_progress};
-    ghost use Rattle.bq_trace.specs.Feeding.{Feeds, BreaksOff, Finishes};
+    ghost use Rattle.bq_trace.specs.Feeding.{Feeds, BreaksOff, Finishes, ForBegunLine};
 
     /// A replay to which nothing has come yet. It takes its memory from `alloc`.
     pub fn new(alloc: Global) -> Session
@@ -67,11 +66,11 @@ impl Session {
 
     /// Runs the lines that this piece ends, and writes their answers.
     fn run_piece<W: Write>(&mut self, piece: &[u8], out: &mut Counted<W>) -> Result<(), StreamFault>
-        ensures ok { OnOk result ((begun : List ℕ) → KeepsLine self.old.begun begun
-            → Feeds self.old begun piece.now self.new (W.contents (counted_inner out.old)) (W.contents (counted_inner out.new))) }
+        ensures ok { OnOk result (ForBegunLine self.old (λ begun.
+            Feeds self.old begun piece.now self.new (W.contents (counted_inner out.old)) (W.contents (counted_inner out.new)))) }
         ensures kept { OnOk result (failures_of out.new ≡ failures_of out.old) }
-        ensures part { OnErr result ((begun : List ℕ) → KeepsLine self.old.begun begun
-            → BreaksOff self.old begun piece.now (W.contents (counted_inner out.old)) (W.contents (counted_inner out.new))) }
+        ensures part { OnErr result (ForBegunLine self.old (λ begun.
+            BreaksOff self.old begun piece.now (W.contents (counted_inner out.old)) (W.contents (counted_inner out.new)))) }
         ensures fault { IfErr result (λ e. IsWriteFault e (failures_of out.old) (failures_of out.new)) }
     {
         self.answers.clear();
@@ -88,11 +87,11 @@ impl Session {
         piece: &[u8],
         out: &mut Counted<W>,
     ) -> Result<Session, StreamFault>
-        ensures ok { IfOk result (λ next. (begun : List ℕ) → KeepsLine self.begun begun
-            → Feeds self begun piece.now next (W.contents (counted_inner out.old)) (W.contents (counted_inner out.new))) }
+        ensures ok { IfOk result (λ next. ForBegunLine self (λ begun.
+            Feeds self begun piece.now next (W.contents (counted_inner out.old)) (W.contents (counted_inner out.new)))) }
         ensures kept { OnOk result (failures_of out.new ≡ failures_of out.old) }
-        ensures part { OnErr result ((begun : List ℕ) → KeepsLine self.begun begun
-            → BreaksOff self begun piece.now (W.contents (counted_inner out.old)) (W.contents (counted_inner out.new))) }
+        ensures part { OnErr result (ForBegunLine self (λ begun.
+            BreaksOff self begun piece.now (W.contents (counted_inner out.old)) (W.contents (counted_inner out.new)))) }
         ensures fault { IfErr result (λ e. IsWriteFault e (failures_of out.old) (failures_of out.new)) }
     {
         self.run_piece(piece, out)?;
@@ -101,11 +100,11 @@ impl Session {
 
     /// Runs the last line, if no line feed ended it, and writes its answer. Returns true if no line of the trace was bad.
     fn run_last_line<W: Write>(&mut self, out: &mut Counted<W>) -> Result<bool, StreamFault>
-        ensures ok { IfOk result (λ clean. (begun : List ℕ) → KeepsLine self.old.begun begun
-            → Finishes self.old begun (W.contents (counted_inner out.old)) (W.contents (counted_inner out.new)) clean) }
+        ensures ok { IfOk result (λ clean. ForBegunLine self.old (λ begun.
+            Finishes self.old begun (W.contents (counted_inner out.old)) (W.contents (counted_inner out.new)) clean)) }
         ensures kept { OnOk result (failures_of out.new ≡ failures_of out.old) }
-        ensures part { OnErr result ((begun : List ℕ) → KeepsLine self.old.begun begun
-            → BreaksOff self.old begun [] (W.contents (counted_inner out.old)) (W.contents (counted_inner out.new))) }
+        ensures part { OnErr result (ForBegunLine self.old (λ begun.
+            BreaksOff self.old begun [] (W.contents (counted_inner out.old)) (W.contents (counted_inner out.new)))) }
         ensures fault { IfErr result (λ e. IsWriteFault e (failures_of out.old) (failures_of out.new)) }
     {
         self.answers.clear();
@@ -116,11 +115,11 @@ impl Session {
 
     /// Runs the last line, if no line feed ended it. Returns true if no line of the trace was bad.
     pub fn finish<W: Write>(mut self, out: &mut Counted<W>) -> Result<bool, StreamFault>
-        ensures ok { IfOk result (λ clean. (begun : List ℕ) → KeepsLine self.begun begun
-            → Finishes self begun (W.contents (counted_inner out.old)) (W.contents (counted_inner out.new)) clean) }
+        ensures ok { IfOk result (λ clean. ForBegunLine self (λ begun.
+            Finishes self begun (W.contents (counted_inner out.old)) (W.contents (counted_inner out.new)) clean)) }
         ensures kept { OnOk result (failures_of out.new ≡ failures_of out.old) }
-        ensures part { OnErr result ((begun : List ℕ) → KeepsLine self.begun begun
-            → BreaksOff self begun [] (W.contents (counted_inner out.old)) (W.contents (counted_inner out.new))) }
+        ensures part { OnErr result (ForBegunLine self (λ begun.
+            BreaksOff self begun [] (W.contents (counted_inner out.old)) (W.contents (counted_inner out.new)))) }
         ensures fault { IfErr result (λ e. IsWriteFault e (failures_of out.old) (failures_of out.new)) }
     {
         self.run_last_line(out)

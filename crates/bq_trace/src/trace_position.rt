@@ -1,7 +1,7 @@
 //! The position of a replay in its trace.
-ghost use Rattle.std.specs.Prelude.{◌≡◌, ◌++◌, ℕ, List, [], OnOk, Some};
+ghost use Rattle.std.specs.Prelude.{◌≡◌, ◌++◌, [], OnOk, Some};
 ghost use Rattle.std.specs.Str.Lines.{lines, strip_carriage_return};
-ghost use Rattle.bq_lines.specs.Kept.{IsOneLine, KeepsLine};
+ghost use Rattle.bq_lines.specs.Kept.{IsOneLine};
 ghost use Rattle.bq_trace.specs.TraceEvents.{Gets};
 
 use crate::progress::Progress;
@@ -20,6 +20,7 @@ pub struct TracePosition {
 
 impl TracePosition {
     ghost use Rattle.bq_trace.specs.Trace.{opening_progress};
+    ghost use Rattle.bq_trace.specs.Feeding.{ForBegunLine};
     ghost use Rattle.bq_trace.specs.Reporting.{ReportsLine, Story, ReportsPiece};
 
     /// The position before the first byte. The line that has begun is kept in memory from `alloc`.
@@ -41,8 +42,8 @@ impl TracePosition {
         sink: &mut S,
     ) -> Result<(), AllocError>
         requires { IsOneLine tail.now }
-        ensures reported { OnOk result ((line : List ℕ) → KeepsLine self.old.begun line
-            → Gets S.takes sink.old sink.new (λ reported. ReportsLine self.old.progress (strip_carriage_return (line ++ tail.now)) reported self.new.progress)) }
+        ensures reported { OnOk result (ForBegunLine self.old (λ line.
+            Gets S.takes sink.old sink.new (λ reported. ReportsLine self.old.progress (strip_carriage_return (line ++ tail.now)) reported self.new.progress))) }
         ensures cleared { OnOk result (self.new.begun ≡ Some []) }
     {
         if let Some(line) = self.begun.whole_line(tail) {
@@ -61,8 +62,8 @@ impl TracePosition {
         piece: &[u8],
         sink: &mut S,
     ) -> Result<(), AllocError>
-        ensures { OnOk result ((begun : List ℕ) → KeepsLine self.old.begun begun
-            → Gets S.takes sink.old sink.new (λ reported. ReportsPiece self.old begun piece.now reported self.new)) }
+        ensures { OnOk result (ForBegunLine self.old (λ begun.
+            Gets S.takes sink.old sink.new (λ reported. ReportsPiece self.old begun piece.now reported self.new))) }
     {
         let mut rest = piece;
         while let Some((tail, more)) = first_line(rest) {
@@ -74,8 +75,8 @@ impl TracePosition {
 
     /// The trace ends here. Reports what the line that has begun does.
     pub fn run_last_line<S: Sink>(&mut self, alloc: Global, sink: &mut S) -> Result<(), AllocError>
-        ensures { OnOk result ((begun : List ℕ) → KeepsLine self.old.begun begun
-            → Gets S.takes sink.old sink.new (λ reported. Story self.old.progress (lines begun) reported self.new.progress)) }
+        ensures { OnOk result (ForBegunLine self.old (λ begun.
+            Gets S.takes sink.old sink.new (λ reported. Story self.old.progress (lines begun) reported self.new.progress))) }
     {
         if self.begun.is_empty() {
             return Ok(());
