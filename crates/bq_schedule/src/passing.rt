@@ -9,18 +9,25 @@ use crate::schedule::{PARTS_PER_NANOSECOND, Schedule};
 use crate::slice::Slice;
 use bq_disc::clock::LATEST;
 
+/// What a reading of a processor's clock gives.
+#[derive(Clone, Copy)]
+pub(crate) struct ClockStep {
+    /// The reading.
+    pub reading: ClockReading,
+    /// The slice that the running task is charged, if there is one.
+    pub slice: Option<Slice>,
+    /// The run that ends, because the slice does not continue it.
+    pub ended_run: Option<Slice>,
+}
+
 impl Schedule {
     /// Reads the clock of a processor. Returns the reading, the slice that is charged, and the run that ends.
-    pub(crate) fn read(
-        &mut self,
-        processor: u8,
-        now: u64,
-    ) -> (ClockReading, Option<Slice>, Option<Slice>)
+    pub(crate) fn read(&mut self, processor: u8, now: u64) -> ClockStep
         requires { processor < length self.old.processors }
         ensures figures { self.new ≡ figures_read processor now self.old }
-        ensures reading { result.0 ≡ reading_at processor (processor_in_figures self.old processor) now }
-        ensures slice { result.1 ≡ slice_at processor (processor_in_figures self.old processor) now }
-        ensures run { result.2 ≡ ended_run (processor_in_figures self.old processor).run (slice_at processor (processor_in_figures self.old processor) now) }
+        ensures reading { result.reading ≡ reading_at processor (processor_in_figures self.old processor) now }
+        ensures slice { result.slice ≡ slice_at processor (processor_in_figures self.old processor) now }
+        ensures run { result.ended_run ≡ ended_run (processor_in_figures self.old processor).run (slice_at processor (processor_in_figures self.old processor) now) }
     {
         let figures = &mut self.processors[usize::from(processor)];
         let reading = figures.reading(processor, now);
@@ -33,7 +40,11 @@ impl Schedule {
         let run = ended_run(figures.run, slice);
         figures.advance_clock(reading.current, slice);
         self.charge(slice);
-        (reading, slice, run)
+        ClockStep {
+            reading,
+            slice,
+            ended_run: run,
+        }
     }
 
     /// Adds the length of a slice, if there is one, to the time of its task.

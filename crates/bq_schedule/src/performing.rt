@@ -108,15 +108,15 @@ impl Schedule {
         ensures figures { self.new ≡ placed processor now decision id to self.old }
         ensures change { result ≡ report_of_placement processor now decision id to self.old }
     {
-        let (reading, slice, ended) = self.read(processor, now);
-        let at = reading.current;
+        let clock = self.read(processor, now);
+        let at = clock.reading.current;
         self.count_decision(processor, &decision);
         self.move_to(id, to, at);
         self.wake(id, to, at);
         Change {
-            reading: Some(reading),
-            slice,
-            run: ended,
+            reading: Some(clock.reading),
+            slice: clock.slice,
+            run: clock.ended_run,
             decision: Some(decision),
             wake: Some(Wake {
                 task: id,
@@ -147,14 +147,14 @@ impl Schedule {
         ensures figures { self.new ≡ figures_decided processor now decision run self.old }
         ensures change { result ≡ report_of_decision processor now decision run self.old }
     {
-        let (reading, slice, ended) = self.read(processor, now);
-        let at = reading.current;
+        let clock = self.read(processor, now);
+        let at = clock.reading.current;
         self.count_decision(processor, &decision);
         let (stop, start) = self.switch(StopReason::Preempted, processor, at, run);
         Change {
-            reading: Some(reading),
-            slice,
-            run: ended,
+            reading: Some(clock.reading),
+            slice: clock.slice,
+            run: clock.ended_run,
             decision: Some(decision),
             stop,
             start,
@@ -168,14 +168,14 @@ impl Schedule {
         ensures figures { self.new ≡ blocked processor now id run self.old }
         ensures change { result ≡ report_of_block processor now id run self.old }
     {
-        let (reading, slice, ended) = self.read(processor, now);
-        let at = reading.current;
+        let clock = self.read(processor, now);
+        let at = clock.reading.current;
         self.leave(id);
         let (stop, start) = self.switch(StopReason::Blocked, processor, at, run);
         Change {
-            reading: Some(reading),
-            slice,
-            run: ended,
+            reading: Some(clock.reading),
+            slice: clock.slice,
+            run: clock.ended_run,
             stop,
             start,
             ..Change::nothing()
@@ -196,15 +196,15 @@ impl Schedule {
         ensures figures { self.new ≡ figures_pulled processor now decision task run self.old }
         ensures change { result ≡ report_of_pull processor from now decision task run self.old }
     {
-        let (reading, slice, ended) = self.read(processor, now);
-        let at = reading.current;
+        let clock = self.read(processor, now);
+        let at = clock.reading.current;
         self.count_decision(processor, &decision);
         let pull = self.move_pulled(task, from, processor, at);
         let (stop, start) = self.switch(StopReason::Preempted, processor, at, run);
         Change {
-            reading: Some(reading),
-            slice,
-            run: ended,
+            reading: Some(clock.reading),
+            slice: clock.slice,
+            run: clock.ended_run,
             decision: Some(decision),
             pull,
             stop,
