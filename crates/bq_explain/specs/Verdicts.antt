@@ -22,7 +22,7 @@ use Rattle.bq_policy_file.specs.Check.{accepted_line}
 use Rattle.bq_policy_file.specs.declared.policy_source.PolicySource.{PolicySource}
 use Rattle.bq_explain.specs.Measures.{measure_of, measure_word}
 use Rattle.bq_explain.specs.declared.limits.Limits.{Limits}
-use Rattle.bq_explain.specs.declared.limits.Over.{Over}
+use Rattle.bq_explain.specs.declared.limits.ExceededLimit.{ExceededLimit}
 use Rattle.bq_explain.specs.declared.measure.Measure.{Measure}
 use Rattle.bq_explain.specs.declared.measure.Measure.TheVariants.{Maps, MapBytes, Counters}
 use Rattle.bq_explain.specs.declared.verdict.Verdict.{Verdict}
@@ -87,7 +87,7 @@ pub record KeepsMeasures (p : PolicySource) (l : Limits) : Type 0 where
   pub counters : IsWithinLimit (measure_of p Counters) l.counters
 
 -- the policy uses more of a measure than is allowed
-pub record IsOver (p : PolicySource) (l : Limits) (over : Over) : Type 0 where
+pub record IsExceeded (p : PolicySource) (l : Limits) (over : ExceededLimit) : Type 0 where
   pub most : most_of l over.measure ≡ Some over.most
   pub used : over.used ≡ measure_of p over.measure
   pub more : over.most < over.used
@@ -99,8 +99,8 @@ KeepsBefore p l MapBytes = IsWithinLimit (measure_of p Maps) l.maps
 KeepsBefore p l Counters = IsWithinLimit (measure_of p Maps) l.maps × IsWithinLimit (measure_of p MapBytes) l.map_bytes
 
 -- the policy uses more of this measure than is allowed, and of no measure before it
-pub record IsFirstOver (p : PolicySource) (l : Limits) (over : Over) : Type 0 where
-  pub is_over : IsOver p l over
+pub record IsFirstExceeded (p : PolicySource) (l : Limits) (over : ExceededLimit) : Type 0 where
+  pub is_over : IsExceeded p l over
   pub before : KeepsBefore p l over.measure
 
 -- the verifier accepts the policy with that budget, and it is within the limits of steps and helpers
@@ -123,7 +123,7 @@ IsVerdict p l (Accepted budget) = IsAcceptedPolicy p budget × KeepsLimits p l b
 IsVerdict p l (OverSteps budget most) = IsAcceptedPolicy p budget × (l.steps ≡ Some most) × (most < budget)
 IsVerdict p l (Forbidden helper) = (budget : ℕ) × IsAcceptedPolicy p budget × IsWithinLimit budget l.steps × IsCalledAgainst (helpers_allowed l) p.insns.items helper
 IsVerdict p l OtherHook = (budget : ℕ) × IsAcceptedWithin p l budget × (¬ (AllowsHook l p.form.hook))
-IsVerdict p l (Beyond over) = (budget : ℕ) × IsAcceptedWithin p l budget × AllowsHook l p.form.hook × IsFirstOver p l over
+IsVerdict p l (Beyond over) = (budget : ℕ) × IsAcceptedWithin p l budget × AllowsHook l p.form.hook × IsFirstExceeded p l over
 IsVerdict p l (Refused slot cause) = IsRefusedPolicy p slot cause
 
 -- a verdict accepts the policy
@@ -132,8 +132,8 @@ is_accepted (Accepted budget) = true
 is_accepted other = false
 
 -- the line on a limit that a policy is beyond
-abbrev pub over_line : Over → List ℕ
-over_line over = refused_line (codes "limit " ++ (measure_word over.measure ++ (codes " " ++ (decimal over.used ++ (codes " of " ++ decimal over.most)))))
+abbrev pub exceeded_line : ExceededLimit → List ℕ
+exceeded_line over = refused_line (codes "limit " ++ (measure_word over.measure ++ (codes " " ++ (decimal over.used ++ (codes " of " ++ decimal over.most)))))
 
 -- the line that tells a verdict
 abbrev pub verdict_line : Hook → Verdict → List ℕ
@@ -141,5 +141,5 @@ verdict_line hook (Accepted budget) = accepted_line hook budget
 verdict_line hook (OverSteps budget most) = refused_line (codes "limit steps " ++ (decimal budget ++ (codes " of " ++ decimal most)))
 verdict_line hook (Forbidden helper) = refused_line (codes "limit helper " ++ signed_decimal helper)
 verdict_line hook OtherHook = refused_line (codes "limit hook " ++ hook_word hook)
-verdict_line hook (Beyond over) = over_line over
+verdict_line hook (Beyond over) = exceeded_line over
 verdict_line hook (Refused slot cause) = refused_line (load_fault_text (load.Refused slot cause))

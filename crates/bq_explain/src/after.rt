@@ -31,14 +31,14 @@ pub(crate) fn known_after(
     let mut state = *states.at(from)?;
     let context = form.context_length();
     let is_next = to == from.saturating_add(insn.slots());
-    if comes(&mut state, form.shapes.as_slice(), context, insn, is_next) {
+    if follow_step(&mut state, form.shapes.as_slice(), context, insn, is_next) {
         return Some(state);
     }
     None
 }
 
-/// Whether a run may go on from the instruction, to the next one or by its jump; if so, makes the state the one after that step.
-fn comes(
+/// Makes the state the one after the step from the instruction to the next one or over its jump; false if no run takes the step.
+fn follow_step(
     state: &mut AbstractState,
     shapes: &[MapShape],
     context: usize,
@@ -52,10 +52,10 @@ fn comes(
         Insn::Exit => false,
         Insn::Goto { .. } | Insn::Goto32 { .. } => true,
         Insn::Branch { .. } => match test_of(insn) {
-            Some(test) => passes(state, test, !is_next),
+            Some(test) => follow_side(state, test, !is_next),
             None => false,
         },
-        _ => goes_on(state, shapes, context, insn),
+        _ => follow_next(state, shapes, context, insn),
     }
 }
 
@@ -85,8 +85,8 @@ pub(crate) fn sides_of(states: &KnownStates, slot: usize, insn: Insn) -> Sides {
     let mut taken = *state;
     let mut passed = *state;
     Sides {
-        next: passes(&mut passed, test, false),
-        jump: passes(&mut taken, test, true),
+        next: follow_side(&mut passed, test, false),
+        jump: follow_side(&mut taken, test, true),
     }
 }
 
@@ -118,8 +118,8 @@ fn test_of(insn: Insn) -> Option<BranchTest> {
     }
 }
 
-/// Whether a run may leave the test on that side; if so, makes the state the one after the test.
-fn passes(state: &mut AbstractState, test: BranchTest, is_taken: bool) -> bool {
+/// Makes the state the one after the test, on that side; false if no run leaves the test there.
+fn follow_side(state: &mut AbstractState, test: BranchTest, is_taken: bool) -> bool {
     if test.dst >= 10 {
         return false;
     }
@@ -142,8 +142,8 @@ fn passes(state: &mut AbstractState, test: BranchTest, is_taken: bool) -> bool {
     true
 }
 
-/// Whether a run may pass an instruction that only the next one can follow; if so, makes the state the one after the instruction.
-fn goes_on(state: &mut AbstractState, shapes: &[MapShape], context: usize, insn: Insn) -> bool
+/// Makes the state the one after an instruction that only the next one can follow; false if no run goes past the instruction.
+fn follow_next(state: &mut AbstractState, shapes: &[MapShape], context: usize, insn: Insn) -> bool
     requires context { context < 2 ^ 16 }
     requires few { length shapes.now ≤ MAPS }
 {

@@ -94,7 +94,7 @@ fn predecessors(alloc: Global, slots: &[Option<Insn>], to: usize) -> Result<Vec<
 {
     let mut from = Vec::new(alloc);
     for slot in 0..slots.len() {
-        if leads(slots, slot, to) {
+        if is_edge(slots, slot, to) {
             from.push(slot)?;
         }
     }
@@ -102,7 +102,7 @@ fn predecessors(alloc: Global, slots: &[Option<Insn>], to: usize) -> Result<Vec<
 }
 
 /// Whether control may go from the first slot to the second.
-fn leads(slots: &[Option<Insn>], from: usize, to: usize) -> bool
+fn is_edge(slots: &[Option<Insn>], from: usize, to: usize) -> bool
     requires inside { from < length slots.now }
     requires short { length slots.now ≤ SLOTS }
     requires sound { IsGraphSound slots.now }

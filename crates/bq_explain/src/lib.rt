@@ -1,4 +1,5 @@
-//! Explains what the verifier and a keeper's limits answer to a policy: as a value and, written from the value, in words.
+//! Explains what the verifier and a keeper's limits answer to a policy: as a value and, written from the value, in words. A keeper
+//! is the person who runs bqsim on a host for other people's programs.
 //!
 //! The explanation of an accepted policy has its numbers. The one of a refused policy has the place, the need that is not met,
 //! the state that is known there, the instructions that made the registers, and what helps. The state is the one that
@@ -31,7 +32,7 @@ pub use advice_words::advice_text;
 pub use explanation::{Detail, Explanation, explain};
 pub use graph_fault::GraphFault;
 pub use join_point::{IncomingWay, JoinPoint};
-pub use limits::{Limits, Over};
+pub use limits::{Limits, ExceededLimit};
 pub use measure::Measure;
 pub use program_point::{ProgramPoint, index_at};
 pub use refusal::{ExplainedRefusal, Finding};

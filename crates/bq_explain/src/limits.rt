@@ -1,6 +1,6 @@
-//! A keeper's own limits on programs.
+//! The limits that a keeper, the person who runs bqsim on a host, sets on the programs of others.
 ghost use Rattle.std.specs.Prelude.{◌≡◌, ◌↔◌, IfSome, IsTrue, MatchOption, All, None, Some};
-ghost use Rattle.bq_explain.specs.Verdicts.{AllowsHook, CallsNoOther, IsBeside, IsCalledAgainst, IsFirstOver, IsOver, IsWithinLimit, KeepsMeasures, most_of};
+ghost use Rattle.bq_explain.specs.Verdicts.{AllowsHook, CallsNoOther, IsBeside, IsCalledAgainst, IsFirstExceeded, IsExceeded, IsWithinLimit, KeepsMeasures, most_of};
 ghost use Rattle.bq_explain.specs.Measures.{measure_of};
 
 use crate::measure::Measure;
@@ -27,7 +27,7 @@ pub struct Limits {
 
 /// A limit that a policy exceeds: the policy uses `used`, and `most` is allowed.
 #[derive(Clone, Copy)]
-pub struct Over {
+pub struct ExceededLimit {
     pub measure: Measure,
     pub used: u64,
     pub most: u32,
@@ -66,8 +66,8 @@ impl Limits {
     }
 
     /// The first limit of maps, their bytes and counters that the policy is beyond.
-    pub(crate) fn exceeded(&self, policy: &PolicySource) -> Option<Over>
-        ensures { MatchOption result (KeepsMeasures policy.now self.now) (IsFirstOver policy.now self.now) }
+    pub(crate) fn exceeded(&self, policy: &PolicySource) -> Option<ExceededLimit>
+        ensures { MatchOption result (KeepsMeasures policy.now self.now) (IsFirstExceeded policy.now self.now) }
     {
         if let Some(over) = self.beyond(policy, Measure::Maps) {
             return Some(over);
@@ -79,8 +79,8 @@ impl Limits {
     }
 
     /// The limit of that measure, if the policy exceeds it.
-    fn beyond(&self, policy: &PolicySource, measure: Measure) -> Option<Over>
-        ensures over { MatchOption result (IsWithinLimit (measure_of policy.now measure) (most_of self.now measure)) (IsOver policy.now self.now) }
+    fn beyond(&self, policy: &PolicySource, measure: Measure) -> Option<ExceededLimit>
+        ensures over { MatchOption result (IsWithinLimit (measure_of policy.now measure) (most_of self.now measure)) (IsExceeded policy.now self.now) }
         ensures measure { IfSome result (λ over. over.measure ≡ measure) }
     {
         let most = self.most(measure)?;
@@ -88,7 +88,7 @@ impl Limits {
         if used <= u64::from(most) {
             return None;
         }
-        Some(Over {
+        Some(ExceededLimit {
             measure,
             used,
             most,

@@ -45,7 +45,7 @@ fn names(written: Option<u8>, register: u8) -> bool
 }
 
 /// Whether a way that spares the register leads on from the target, if there is one.
-fn leads(leading: &[bool], to: Option<usize>) -> bool
+fn leads_on(leading: &[bool], to: Option<usize>) -> bool
     requires { (k : ℕ) → to ≡ Some k → k < length leading.now }
     ensures { IsTrue result ↔ ((k : ℕ) × (to ≡ Some k) × (slice_index_or leading.now k false ≡ true)) }
 {
@@ -56,11 +56,11 @@ fn leads(leading: &[bool], to: Option<usize>) -> bool
 }
 
 /// Whether a way that spares the register leads on from one of the targets.
-fn lead_on(leading: &[bool], targets: Targets) -> bool
+fn one_leads_on(leading: &[bool], targets: Targets) -> bool
     requires { (k : ℕ) → IsAmongTargets targets k → k < length leading.now }
     ensures { IsTrue result ↔ ((k : ℕ) × IsAmongTargets targets k × (slice_index_or leading.now k false ≡ true)) }
 {
-    leads(leading, targets.next) || leads(leading, targets.jump)
+    leads_on(leading, targets.next) || leads_on(leading, targets.jump)
 }
 
 /// The instructions whose value the register may hold at the slot, the nearest first.
@@ -76,12 +76,12 @@ pub(crate) fn makers(
     ensures { IfOk result (λ makers. (made : ℕ) → Contains makers.items made ↔ IsMaker slots.now register slot made) }
 {
     let mut leading = vec![in alloc; false; slots.len()]?;
-    swept(alloc, slots, register, slot, leading.as_mut_slice())
+    find_makers(alloc, slots, register, slot, leading.as_mut_slice())
 }
 
 /// Finds what `makers` answers. `leading` marks the slots from which a way that spares the register leads to the slot; at first
 /// it marks none.
-fn swept(
+fn find_makers(
     alloc: Global,
     slots: &[Option<Insn>],
     register: u8,
@@ -120,7 +120,7 @@ fn role_of(slots: &[Option<Insn>], register: u8, here: usize, leading: &[bool]) 
         return Role::Off;
     };
     let targets = targets(slots, here, insn);
-    if !lead_on(leading, targets) {
+    if !one_leads_on(leading, targets) {
         return Role::Off;
     }
     if writes(insn, register) {
@@ -140,7 +140,7 @@ pub struct Maker {
 }
 
 /// The most makers that a trail names.
-const MOST: usize = 6;
+const MOST_MAKERS: usize = 6;
 
 /// The instructions whose values the asked registers may hold at the slot, the nearest first, and then the instructions whose
 /// values those read, and so on; each on a way that a run may take.
@@ -158,7 +158,7 @@ pub(crate) fn trail(
 {
     let mut trail = Vec::new(alloc);
     push_makers(alloc, slots, ways, slot, asked, &mut trail)?;
-    for at in 0..MOST {
+    for at in 0..MOST_MAKERS {
         if at < trail.len() {
             let maker = trail[at];
             push_operands(alloc, slots, ways, maker, &mut trail)?;
@@ -227,7 +227,7 @@ fn push_named(
             slot: *slot,
             register,
         };
-        if trail.len() < MOST && !is_left_out(trail.as_slice(), reaching, maker) {
+        if trail.len() < MOST_MAKERS && !is_left_out(trail.as_slice(), reaching, maker) {
             trail.push(maker)?;
         }
     }

@@ -9,7 +9,7 @@ ghost use Rattle.bq_explain.specs.Verdicts.{is_accepted};
 use crate::advice_words::advice_text;
 use crate::explanation::{Detail, Explanation};
 use crate::graph_fault::graph_text;
-use crate::limits::Over;
+use crate::limits::ExceededLimit;
 use crate::program_point::{ProgramPoint, instruction_line};
 use crate::refusal::{ExplainedRefusal, Finding};
 use crate::state_words::state_text;
@@ -99,7 +99,7 @@ fn limit_text(
             "  the policy is for a hook that the limit of --hooks leaves out\n",
         ),
         (Verdict::Beyond(over), _) => {
-            let Over {
+            let ExceededLimit {
                 measure,
                 used,
                 most,

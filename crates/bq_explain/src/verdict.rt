@@ -1,9 +1,9 @@
 //! What the verifier and a keeper's limits answer to a policy.
 ghost use Rattle.std.specs.Prelude.{◌≡◌, IfOk};
 ghost use Rattle.std.specs.String.{string_bytes};
-ghost use Rattle.bq_explain.specs.Verdicts.{IsAcceptedPolicy, IsVerdict, is_accepted, over_line, verdict_line};
+ghost use Rattle.bq_explain.specs.Verdicts.{IsAcceptedPolicy, IsVerdict, is_accepted, exceeded_line, verdict_line};
 
-use crate::limits::{Limits, Over};
+use crate::limits::{Limits, ExceededLimit};
 use bq_hooks::Hook;
 use bq_load::LoadFault;
 use bq_policy_file::{PolicySource, accepted_line, fault_text};
@@ -22,7 +22,7 @@ pub enum Verdict {
     /// The policy is for a hook that is not allowed.
     OtherHook,
     /// The policy exceeds another limit.
-    Beyond(Over),
+    Beyond(ExceededLimit),
     /// The policy is not shown to be safe: the slot that the verifier names, and the cause.
     Refused { slot: usize, cause: Cause },
 }
@@ -86,7 +86,7 @@ pub fn verdict_line(alloc: Global, hook: Hook, verdict: Verdict) -> Result<Strin
             let hook = hook.word();
             format!(in alloc; "refused limit hook {hook}\n")
         }
-        Verdict::Beyond(over) => over_line(alloc, over),
+        Verdict::Beyond(over) => exceeded_line(alloc, over),
         Verdict::Refused { slot, cause } => {
             let named = fault_text(alloc, LoadFault::Refused { slot, cause })?;
             format!(in alloc; "refused {named}\n")
@@ -95,8 +95,8 @@ pub fn verdict_line(alloc: Global, hook: Hook, verdict: Verdict) -> Result<Strin
 }
 
 /// The line on a limit that a policy is beyond.
-fn over_line(alloc: Global, over: Over) -> Result<String, AllocError>
-    ensures { IfOk result (λ text. string_bytes text ≡ over_line over) }
+fn exceeded_line(alloc: Global, over: ExceededLimit) -> Result<String, AllocError>
+    ensures { IfOk result (λ text. string_bytes text ≡ exceeded_line over) }
 {
     let word = over.measure.word();
     let used = over.used;

@@ -98,7 +98,7 @@ pub(crate) fn reaching(
     mark(spared.as_mut_slice(), Some(slot));
     for done in 0..slot {
         let here = slot - 1 - done;
-        if leads(ways, spared.as_slice(), here) {
+        if leads_to_marked(ways, spared.as_slice(), here) {
             mark(reaching.as_mut_slice(), Some(here));
             if spares(slots, register, here) {
                 mark(spared.as_mut_slice(), Some(here));
@@ -109,7 +109,7 @@ pub(crate) fn reaching(
 }
 
 /// Whether a run may go from the slot to one that is marked.
-fn leads(ways: &Ways, marked: &[bool], here: usize) -> bool {
+fn leads_to_marked(ways: &Ways, marked: &[bool], here: usize) -> bool {
     let next = ways.next.as_slice().get(here).copied().flatten();
     let jump = ways.jump.as_slice().get(here).copied().flatten();
     is_target(marked, next) || is_target(marked, jump)

@@ -2,7 +2,7 @@ use Rattle.std.proofs.Common.{◌≡◌, ◌++◌, ◌∷◌, ℕ, [], List, ◌
 use Rattle.std.specs.Prelude.{Contains, slice_index_or}
 use Rattle.std.proofs.lemmas.List.Elements.{Contains-push_cases, Contains-get_or}
 use Rattle.bq_explain.specs.declared.makers.Maker.{Maker}
-use Rattle.bq_explain.proofs.makers.push_named.Goals.{then-len-lt-MOST+then-not-is_left_out+in_ok-push, else-len-lt-MOST}
+use Rattle.bq_explain.proofs.makers.push_named.Goals.{then-len-lt-MOST_MAKERS+then-not-is_left_out+in_ok-push, else-len-lt-MOST_MAKERS}
 use Rattle.bq_explain.proofs.makers.push_named.Goals as goal
 
 -- what is there after one more maker is pushed
@@ -23,11 +23,11 @@ one_more register slot made old new before from is was maker there =
 
 pub loop-slot-preserved : goal.loop-slot-preserved
 loop-slot-preserved c =
-    elim c.if-len-lt-MOST.branch [
-      | then-len-lt-MOST+then-not-is_left_out+in_ok-push w ↦
+    elim c.if-len-lt-MOST_MAKERS.branch [
+      | then-len-lt-MOST_MAKERS+then-not-is_left_out+in_ok-push w ↦
           one_more c.args.register (slice_index_or c.args.made.now c.loop-slot.slot-index 0)
-          c.args.made.now c.loop-slot.trail.items c.if-len-lt-MOST.trail.items c.args.trail.now.items
+          c.args.made.now c.loop-slot.trail.items c.if-len-lt-MOST_MAKERS.trail.items c.args.trail.now.items
           (Contains-get_or c.args.made.now c.loop-slot.slot-index 0 c.loop-slot-test.true)
           (rw w.trail-is w.in_ok-push.ensures.items) c.loop-slot.invariant
-      | else-len-lt-MOST w ↦ rw w.trail-is c.loop-slot.invariant
+      | else-len-lt-MOST_MAKERS w ↦ rw w.trail-is c.loop-slot.invariant
     ]

@@ -10,20 +10,20 @@ returns-in_default c = λ slot lt are.
     let none : instruction_at c.args.slots.now c.args.here ≡ None = search rules in
     part_none c.args.slots.now c.args.register slot c.requires.sound c.args.here lt c.args.leading.now are none
 
-pub lead_on-requires : goal.lead_on-requires
-lead_on-requires c = λ k of.
+pub one_leads_on-requires : goal.one_leads_on-requires
+one_leads_on-requires c = λ k of.
     rw c.requires.room
     (target_inside c.args.slots.now c.args.here c.targets-targets.result c.requires.sound c.targets-targets.ensures k of)
 
-pub returns-then-not-lead_on : goal.returns-then-not-lead_on
-returns-then-not-lead_on c = λ slot lt are.
+pub returns-then-not-one_leads_on : goal.returns-then-not-one_leads_on
+returns-then-not-one_leads_on c = λ slot lt are.
     part_off c.args.slots.now c.args.register slot c.requires.sound c.args.here
     lt c.args.leading.now are c.targets-targets.result c.targets-targets.ensures
-    (λ k of leads. let on = c.if-not-lead_on.ensures.1 (k, of, leads) in absurd cc)
+    (λ k of leads. let on = c.if-not-one_leads_on.ensures.1 (k, of, leads) in absurd cc)
 
 pub returns-then-writes : goal.returns-then-writes
 returns-then-writes c = λ slot lt are.
-    let on = c.if-not-lead_on.ensures.0 refl in
+    let on = c.if-not-one_leads_on.ensures.0 refl in
     let here : instruction_at c.args.slots.now c.args.here ≡ Some c.in-Some.insn = sym c.in-Some.ensures in
     let writes : spares c.args.register (instruction_at c.args.slots.now c.args.here) ≡ false = rw here c.if-writes.ensures in
     part_makes c.args.slots.now c.args.register slot c.requires.sound c.args.here lt c.args.leading.now are
@@ -31,7 +31,7 @@ returns-then-writes c = λ slot lt are.
 
 pub returns-else-writes : goal.returns-else-writes
 returns-else-writes c = λ slot lt are.
-    let on = c.if-not-lead_on.ensures.0 refl in
+    let on = c.if-not-one_leads_on.ensures.0 refl in
     let here : instruction_at c.args.slots.now c.args.here ≡ Some c.in-Some.insn = sym c.in-Some.ensures in
     let spared : spares c.args.register (instruction_at c.args.slots.now c.args.here) ≡ true = rw here c.if-writes.ensures in
     part_leads c.args.slots.now c.args.register slot c.requires.sound c.args.here lt c.args.leading.now are

@@ -3,8 +3,8 @@ use Rattle.std.specs.Prelude.{codes, string_bytes}
 use Rattle.std.specs.Fmt.{decimal}
 use Rattle.std.proofs.lemmas.Result.{IfOk-weaker}
 use Rattle.bq_words.specs.Refused.{refused_line}
-use Rattle.bq_explain.specs.Verdicts.{over_line}
-use Rattle.bq_explain.proofs.verdict.over_line.Goals as goal
+use Rattle.bq_explain.specs.Verdicts.{exceeded_line}
+use Rattle.bq_explain.proofs.verdict.exceeded_line.Goals as goal
 
 -- the line, piece by piece
 pieces : (word used most : List ℕ)
@@ -25,7 +25,7 @@ returns c =
     let most = decimal c.args.over.most in
     IfOk-weaker c.format.result
     (λ text. string_bytes text ≡ codes "refused limit " ++ (word ++ (codes " " ++ (used ++ (codes " of " ++ (most ++ codes "\n"))))))
-    (λ text. string_bytes text ≡ over_line c.args.over)
+    (λ text. string_bytes text ≡ exceeded_line c.args.over)
     (λ text is.
     is ∙ (pieces word used most
     ∙ ap (λ (w : List ℕ). refused_line (codes "limit " ++ (w ++ (codes " " ++ (used ++ (codes " of " ++ most)))))) c.word-word.ensures))
