@@ -3,7 +3,7 @@ ghost use Rattle.std.specs.Prelude.{◌≡◌, [], IfOk, IfErr, map, true};
 ghost use Rattle.clap.specs.Words.{fault_of, takes, subcommand_of, subcommand_rows_of};
 ghost use Rattle.bq_cli.specs.BqsimApp.{bqsim_app};
 ghost use Rattle.bq_cli.specs.Commands.{IsCommand, IsCommandIn};
-ghost use Rattle.bq_cli.specs.declared.command.Command.{Command as Asked};
+ghost use Rattle.bq_cli.specs.declared.command.Command.{Command as CommandValue};
 
 use crate::asm::{AsmWords, asm_words};
 use crate::check::check_words;
@@ -54,7 +54,7 @@ pub fn job<'a>(alloc: Global, words: &'a [&'a str]) -> Result<Command, WordsFaul
 
     // Words that clap takes, and that are those of a command, are refused only if memory runs out.
     ensures taken { IfErr result (λ e. takes bqsim_app (map (λ w. w.now) words.entry.now) ≡ true
-        → (command : Asked) → IsCommand (map (λ w. w.now) words.entry.now) command → e ≡ WordsFault.OutOfMemory) }
+        → (command : CommandValue) → IsCommand (map (λ w. w.now) words.entry.now) command → e ≡ WordsFault.OutOfMemory) }
 {
     let matches = found(alloc, words)?;
     command_in(alloc, &matches)
@@ -73,7 +73,7 @@ fn found<'a>(alloc: Global, words: &'a [&'a str]) -> Result<ArgMatches<'a>, Word
 /// The command that clap found, with its values.
 fn command_in(alloc: Global, matches: &ArgMatches<'_>) -> Result<Command, WordsFault>
     ensures ok { IfOk result (IsCommandIn (subcommand_rows_of matches.now)) }
-    ensures taken { IfErr result (λ e. (command : Asked) → IsCommandIn (subcommand_rows_of matches.now) command → e ≡ WordsFault.OutOfMemory) }
+    ensures taken { IfErr result (λ e. (command : CommandValue) → IsCommandIn (subcommand_rows_of matches.now) command → e ≡ WordsFault.OutOfMemory) }
 {
     if let Some(matches) = matches.subcommand_matches("asm") {
         return Ok(Command::Asm(asm_words(alloc, matches)?));

@@ -1,8 +1,8 @@
 //! A policy among the words of a command: its file, its hook, its maps and its format.
 ghost use Rattle.std.specs.Prelude.{◌≡◌, Option, IfOk, IfErr};
 ghost use Rattle.clap.specs.Words.{found_of, rows_of};
-ghost use Rattle.bq_hooks.specs.declared.hook.Hook.{Hook as Place};
-ghost use Rattle.bq_hooks.specs.declared.hook.Version.{Version as Number};
+ghost use Rattle.bq_hooks.specs.declared.hook.Hook.{Hook as HookValue};
+ghost use Rattle.bq_hooks.specs.declared.hook.Version.{Version as VersionValue};
 ghost use Rattle.bq_policy_check.specs.Given.{option_bytes};
 ghost use Rattle.bq_cli.specs.Words.{ArePolicyWords, GivesHook, GivesVersion, name_nothing};
 
@@ -48,7 +48,7 @@ pub(crate) fn name_nothing(words: &PolicyWords) -> bool
 /// The hook that a word names, if there is a word.
 pub(crate) fn hook_in(alloc: Global, word: &Option<String>) -> Result<Option<Hook>, WordsFault>
     ensures ok { IfOk result (GivesHook (option_bytes word.now)) }
-    ensures taken { IfErr result (λ e. (named : Option Place) → GivesHook (option_bytes word.now) named → e ≡ WordsFault.OutOfMemory) }
+    ensures taken { IfErr result (λ e. (named : Option HookValue) → GivesHook (option_bytes word.now) named → e ≡ WordsFault.OutOfMemory) }
 {
     let Some(word) = word else {
         return Ok(None);
@@ -62,7 +62,7 @@ pub(crate) fn hook_in(alloc: Global, word: &Option<String>) -> Result<Option<Hoo
 /// The version that a word names, if there is a word.
 pub(crate) fn format_in(alloc: Global, word: &Option<String>) -> Result<Option<Version>, WordsFault>
     ensures ok { IfOk result (GivesVersion (option_bytes word.now)) }
-    ensures taken { IfErr result (λ e. (named : Option Number) → GivesVersion (option_bytes word.now) named → e ≡ WordsFault.OutOfMemory) }
+    ensures taken { IfErr result (λ e. (named : Option VersionValue) → GivesVersion (option_bytes word.now) named → e ≡ WordsFault.OutOfMemory) }
 {
     let Some(word) = word else {
         return Ok(None);

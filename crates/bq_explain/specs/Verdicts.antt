@@ -100,7 +100,7 @@ KeepsBefore p l Counters = IsWithinLimit (measure_of p Maps) l.maps × IsWithinL
 
 -- the policy uses more of this measure than is allowed, and of no measure before it
 pub record IsFirstExceeded (p : PolicySource) (l : Limits) (over : ExceededLimit) : Type 0 where
-  pub is_over : IsExceeded p l over
+  pub is_exceeded : IsExceeded p l over
   pub before : KeepsBefore p l over.measure
 
 -- the verifier accepts the policy with that budget, and it is within the limits of steps and helpers

@@ -2,7 +2,7 @@
 ghost use Rattle.std.specs.Prelude.{◌≡◌, ◌==◌, ℕ, false, slice_index_or, true};
 ghost use Rattle.bq_explain.specs.Advising.{AdvisesOn, NamesRegister};
 ghost use Rattle.bq_explain.specs.declared.advice.Advice.TheVariants.{Know};
-ghost use Rattle.bq_explain.specs.declared.advice.Missing.{Missing as Lacking};
+ghost use Rattle.bq_explain.specs.declared.advice.Missing.{Missing as MissingValue};
 
 use crate::access_advice::{AccessRange, Reach, access_advice, is_answer_itself, test_advice};
 use crate::graph_fault::GraphFault;
@@ -177,7 +177,7 @@ pub(crate) fn only(register: u8) -> Registers
 /// What helps if nothing is known of these registers: a call left one unset, no instruction sets it on some way, or it
 /// holds words of two kinds.
 fn unknown_advice(registers: &Registers, trail: &Trail) -> Advice
-    ensures { (missing : Lacking) × (result ≡ Know missing) }
+    ensures { (missing : MissingValue) × (result ≡ Know missing) }
 {
     let mut missing = Missing {
         known_before_call: [false; REGISTERS],

@@ -32,7 +32,7 @@ pub use advice_words::advice_text;
 pub use explanation::{Detail, Explanation, explain};
 pub use graph_fault::GraphFault;
 pub use join_point::{IncomingWay, JoinPoint};
-pub use limits::{Limits, ExceededLimit};
+pub use limits::{ExceededLimit, Limits};
 pub use measure::Measure;
 pub use program_point::{ProgramPoint, index_at};
 pub use refusal::{ExplainedRefusal, Finding};

@@ -2,7 +2,7 @@
 ghost use Rattle.std.specs.Prelude.{◌+◌, ◌⊎◌, Bool, List, ◌≡◌, ◌<◌, ◌≤◌, ◌↔◌, ℕ, All, Contains, IfOk, IfSome, IsTrue, MatchBool, OnOk, false, length, slice_index_or, Some, true};
 ghost use Rattle.bq_verify.specs.Passes.{IsAmongTargets, IsGraphSound};
 ghost use Rattle.bq_explain.specs.Makers.{AreLeading, AreOnTrail, IsMaker, IsOnTrail, HasRole, MakesAsked};
-ghost use Rattle.bq_explain.specs.declared.makers.Maker.{Maker as Named};
+ghost use Rattle.bq_explain.specs.declared.makers.Maker.{Maker as MakerValue};
 ghost use Rattle.bq_verify.specs.Straight.{spares};
 
 use crate::ways::{Ways, is_marked, reaching};
@@ -201,7 +201,7 @@ fn push_makers(
     requires inside { slot < length slots.now }
     requires short { length slots.now ≤ SLOTS }
     requires sound { IsGraphSound slots.now }
-    ensures { OnOk result ((maker : Named) → Contains trail.new.items maker → Contains trail.old.items maker ⊎ MakesAsked slots.now slot asked.now maker) }
+    ensures { OnOk result ((maker : MakerValue) → Contains trail.new.items maker → Contains trail.old.items maker ⊎ MakesAsked slots.now slot asked.now maker) }
 {
     for register in 0..REGISTERS as u8 {
         if asked[usize::from(register)] {
@@ -220,7 +220,7 @@ fn push_named(
     reaching: &[bool],
     trail: &mut Vec<Maker>,
 ) -> Result<(), AllocError>
-    ensures { OnOk result ((maker : Named) → Contains trail.new.items maker → Contains trail.old.items maker ⊎ ((maker.register ≡ register) × Contains made.now maker.slot)) }
+    ensures { OnOk result ((maker : MakerValue) → Contains trail.new.items maker → Contains trail.old.items maker ⊎ ((maker.register ≡ register) × Contains made.now maker.slot)) }
 {
     for slot in made {
         let maker = Maker {

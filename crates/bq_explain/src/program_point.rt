@@ -1,7 +1,7 @@
 //! Points of a policy's program: its instructions, and their places.
 ghost use Rattle.std.specs.Prelude.{◌≡◌, IfNone, IfOk, IfSome, Some, slice_get, string_bytes};
 ghost use Rattle.bq_insn.specs.Slots.{spread};
-ghost use Rattle.bq_insn.specs.declared.Insn.{Insn as Reported};
+ghost use Rattle.bq_insn.specs.declared.Insn.{Insn as InsnValue};
 ghost use Rattle.bq_bpf.specs.Steps.{instruction_at};
 ghost use Rattle.bq_verify.specs.Edges.{IsStart};
 ghost use Rattle.bq_explain.specs.Explained.{IsPlaceOfSlot};
@@ -99,7 +99,7 @@ pub(crate) fn instruction_line(
 
 /// The index of the instruction that begins at the slot.
 pub fn index_at(insns: &[Insn], slot: usize) -> Option<usize>
-    ensures { IfSome result (λ index. (insn : Reported) → slice_get insns.now index ≡ Some insn → instruction_at (spread insns.now) slot ≡ Some insn) }
+    ensures { IfSome result (λ index. (insn : InsnValue) → slice_get insns.now index ≡ Some insn → instruction_at (spread insns.now) slot ≡ Some insn) }
 {
     let mut at: usize = 0;
     for (index, insn) in insns.iter().enumerate() {

@@ -4,7 +4,7 @@ ghost use Rattle.bq_insn.specs.Slots.{spread};
 ghost use Rattle.bq_verify.specs.Faults.{IsFaultless};
 ghost use Rattle.bq_verify.specs.KnownAt.{AreKnown};
 ghost use Rattle.bq_policy_file.specs.Subjects.{subject_in};
-ghost use Rattle.bq_policy_file.specs.declared.policy_source.PolicySource.{PolicySource as Named};
+ghost use Rattle.bq_policy_file.specs.declared.policy_source.PolicySource.{PolicySource as PolicySourceValue};
 ghost use Rattle.bq_explain.specs.Explained.{AreAsked, AreMade, IsFinding, IsOfState, IsRefusalOf, speaks_of};
 ghost use Rattle.bq_explain.specs.Verdicts.{IsRefusedPolicy};
 
@@ -78,7 +78,7 @@ fn graph_refusal(
 ) -> Result<ExplainedRefusal, AllocError>
     ensures place { IfOk result (λ refusal. refusal.place ≡ place) }
     ensures cause { IfOk result (λ refusal. refusal.cause ≡ Cause.Graph named) }
-    ensures finds { IfOk result (λ refusal. (p : Named) (slot : ℕ) → IsFinding p slot place.insn (Cause.Graph named) refusal.finding) }
+    ensures finds { IfOk result (λ refusal. (p : PolicySourceValue) (slot : ℕ) → IsFinding p slot place.insn (Cause.Graph named) refusal.finding) }
     ensures made { IfOk result (λ refusal. refusal.trail.makers.items ≡ []) }
 {
     let fault = graph_fault(slots.len(), place.slot, place.insn, named);

@@ -3,7 +3,7 @@ ghost use Rattle.std.specs.Prelude.{◌≡◌, IfOk};
 ghost use Rattle.std.specs.String.{string_bytes};
 ghost use Rattle.bq_explain.specs.Verdicts.{IsAcceptedPolicy, IsVerdict, is_accepted, exceeded_line, verdict_line};
 
-use crate::limits::{Limits, ExceededLimit};
+use crate::limits::{ExceededLimit, Limits};
 use bq_hooks::Hook;
 use bq_load::LoadFault;
 use bq_policy_file::{PolicySource, accepted_line, fault_text};

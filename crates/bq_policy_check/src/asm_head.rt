@@ -1,6 +1,6 @@
 //! The words of `asm` beside the marks of its text.
 ghost use Rattle.std.specs.Prelude.{◌≡◌, IfOk, MatchOption};
-ghost use Rattle.bq_policy_file.specs.declared.head.Head.{Head as StatedHead};
+ghost use Rattle.bq_policy_file.specs.declared.head.Head.{Head as HeadValue};
 ghost use Rattle.bq_policy_check.specs.Disagreeing.{IsAsmRefusal, IsDifferingKey, IsRefusalBeside, GivesImage, differing};
 
 use crate::file_fault::{fault_line, fault_reason};
@@ -52,7 +52,7 @@ fn refusal_beside(
 /// What the options say of the image, if they ask for one. A `--maps` that names no maps is refused later, by `asm` itself.
 #[tactic(auto, using(crate::proofs::DifferenceLemmas::no_image, crate::proofs::DifferenceLemmas::no_maps))]
 pub(crate) fn head_of(alloc: Global, options: &Options) -> Result<Option<Head>, AllocError>
-    ensures { IfOk result (λ stated. MatchOption stated ((h : StatedHead) → ¬ GivesImage options.now h) (GivesImage options.now)) }
+    ensures { IfOk result (λ stated. MatchOption stated ((h : HeadValue) → ¬ GivesImage options.now h) (GivesImage options.now)) }
 {
     if options.hook.is_none() {
         return Ok(None);

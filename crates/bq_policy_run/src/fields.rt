@@ -4,8 +4,8 @@ ghost use Rattle.std.specs.Bool.{OnFalse, OnTrue};
 ghost use Rattle.std.specs.List.{find};
 ghost use Rattle.std.specs.Str.{bytes_eq};
 ghost use Rattle.bq_policy_run.specs.Fields.{GoesBy, GoesByName, HasNumber, IsField, IsNumbered, IsPasted, IsFieldPut, IsSingle, bytes_in, fields_of, row_named, field_of_row};
-ghost use Rattle.bq_policy_run.specs.declared.fields.Field.{Field as OfField};
-ghost use Rattle.bq_policy_run.specs.declared.fields.FieldRow.{FieldRow as OfRow};
+ghost use Rattle.bq_policy_run.specs.declared.fields.Field.{Field as FieldValue};
+ghost use Rattle.bq_policy_run.specs.declared.fields.FieldRow.{FieldRow as FieldRowValue};
 
 use bq_console::words::{cut, decimal};
 use bq_hooks::{Hook, Version, context_length};
@@ -125,7 +125,7 @@ const PULL: [FieldRow; 10] = [
 /// The field of that name. If the field comes several times, the name has a dot and the number.
 pub(crate) fn field_named(hook: Hook, version: Version, name: &str) -> Option<Field>
     ensures some { IfSome result (IsField hook version name.now) }
-    ensures none { IfNone result ((field : OfField) → ¬ IsField hook version name.now field) }
+    ensures none { IfNone result ((field : FieldValue) → ¬ IsField hook version name.now field) }
 {
     let field = field_by(hook, name)?;
     let end = field.at.checked_add(field.width.bytes())?;
@@ -138,7 +138,7 @@ pub(crate) fn field_named(hook: Hook, version: Version, name: &str) -> Option<Fi
 /// The field of that name, wherever the context ends.
 fn field_by(hook: Hook, name: &str) -> Option<Field>
     ensures some { IfSome result (GoesBy hook name.now) }
-    ensures none { IfNone result ((field : OfField) → field.at < 2 ^ 64 → ¬ GoesBy hook name.now field) }
+    ensures none { IfNone result ((field : FieldValue) → field.at < 2 ^ 64 → ¬ GoesBy hook name.now field) }
 {
     match cut(name, '.') {
         None => by_name(hook, name),
@@ -149,7 +149,7 @@ fn field_by(hook: Hook, name: &str) -> Option<Field>
 /// The field of that name, if it comes once.
 fn by_name(hook: Hook, name: &str) -> Option<Field>
     ensures some { IfSome result (GoesByName hook name.now) }
-    ensures none { IfNone result ((field : OfField) → ¬ GoesByName hook name.now field) }
+    ensures none { IfNone result ((field : FieldValue) → ¬ GoesByName hook name.now field) }
 {
     let row = row_named(hook, name)?;
     single(row)
@@ -158,7 +158,7 @@ fn by_name(hook: Hook, name: &str) -> Option<Field>
 /// The field of that name and that number, if there are several.
 fn by_number(hook: Hook, stem: &str, digits: &str) -> Option<Field>
     ensures some { IfSome result (HasNumber hook stem.now digits.now) }
-    ensures none { IfNone result ((field : OfField) → field.at < 2 ^ 64 → ¬ HasNumber hook stem.now digits.now field) }
+    ensures none { IfNone result ((field : FieldValue) → field.at < 2 ^ 64 → ¬ HasNumber hook stem.now digits.now field) }
 {
     let row = row_named(hook, stem)?;
     let number = decimal(digits)?;
@@ -186,7 +186,7 @@ fn row_named(hook: Hook, name: &str) -> Option<FieldRow>
 
 /// The first row of that name, if there is one.
 fn first_named(rows: &[FieldRow], name: &str) -> Option<FieldRow>
-    ensures { result ≡ find (λ (row : OfRow). bytes_eq row.name.now name.now) rows.now }
+    ensures { result ≡ find (λ (row : FieldRowValue). bytes_eq row.name.now name.now) rows.now }
 {
     rows.iter().copied().find(|row| row.name == name)
 }
@@ -194,7 +194,7 @@ fn first_named(rows: &[FieldRow], name: &str) -> Option<FieldRow>
 /// The field of a row, if it comes once.
 fn single(row: FieldRow) -> Option<Field>
     ensures some { IfSome result (IsSingle (field_of_row row)) }
-    ensures none { IfNone result ((field : OfField) → ¬ IsSingle (field_of_row row) field) }
+    ensures none { IfNone result ((field : FieldValue) → ¬ IsSingle (field_of_row row) field) }
 {
     if row.count != 1 {
         return None;
@@ -208,7 +208,7 @@ fn single(row: FieldRow) -> Option<Field>
 /// The field of that number of a row, if the row's field comes several times.
 fn numbered(row: FieldRow, number: usize) -> Option<Field>
     ensures some { IfSome result (IsNumbered (field_of_row row) number) }
-    ensures none { IfNone result ((field : OfField) → field.at < 2 ^ 64 → ¬ IsNumbered (field_of_row row) number field) }
+    ensures none { IfNone result ((field : FieldValue) → field.at < 2 ^ 64 → ¬ IsNumbered (field_of_row row) number field) }
 {
     if row.count < 2 || number >= row.count {
         return None;

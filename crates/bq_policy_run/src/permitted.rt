@@ -3,7 +3,7 @@ ghost use Rattle.std.specs.Prelude.{◌≡◌, ◌≤◌, ◌+◌, length, slice
 ghost use Rattle.byteorder.specs.Endian.{little_number};
 ghost use Rattle.bq_policy_run.specs.Permitting.{hides_tasks, context_number, place_permits, place_permission, preempt_permission, pull_permission, shows_task, permission_of};
 ghost use Rattle.bq_hooks.specs.Hooks.{context_length_of};
-ghost use Rattle.bq_hooks.specs.declared.hook.Version.{Version as OfVersion};
+ghost use Rattle.bq_hooks.specs.declared.hook.Version.{Version as VersionValue};
 
 use bq_disc::limits::PROCESSORS;
 use bq_disc::mask::allows;
@@ -32,7 +32,7 @@ pub enum Permission {
 
 /// What the rule says of the answer to this context, which has the length of the hook's contexts.
 pub fn permission_of(hook: Hook, context: &[u8], r0: u64) -> Permission
-    ensures { (version : OfVersion) → length context.now ≡ context_length_of hook version → result ≡ permission_of hook context.now r0 }
+    ensures { (version : VersionValue) → length context.now ≡ context_length_of hook version → result ≡ permission_of hook context.now r0 }
 {
     match hook {
         Hook::Place => place_permission(context, r0),
