@@ -47,9 +47,9 @@ impl Lanes {
         self.free.len()
     }
 
-    /// Takes the first lane that is free when an interval begins. If no lane is free it takes a new one, and `None` if all are taken.
-    /// Intervals must come in the order in which they begin.
-    pub fn take(&mut self, interval: &TaskInterval) -> Result<Option<usize>, AllocError>
+    /// Allots a lane to an interval, and returns it: the first lane that is free when the interval begins, or else a new one. `None` if all
+    /// lanes are taken. Intervals must come in the order in which they begin.
+    pub fn allot(&mut self, interval: &TaskInterval) -> Result<Option<usize>, AllocError>
         ensures lane { IfOk result (λ lane. lane ≡ lane_of interval.now self.old) }
         ensures taken { IfOk result (λ lane. self.new ≡ lanes_taken lane interval.now.to self.old) }
     {
@@ -71,12 +71,12 @@ impl Lanes {
         ensures value { result ≡ first_free at self.now }
         ensures within { IfSome result (λ lane. lane < length self.now) }
     {
-        self.free.iter().position(|free| is_over(*free, at))
+        self.free.iter().position(|free| has_ended(*free, at))
     }
 }
 
-/// Tells whether something that lasts until one moment is over at another.
-fn is_over(until: u64, at: u64) -> bool
+/// Tells whether something that lasts until one moment has ended at another.
+fn has_ended(until: u64, at: u64) -> bool
     ensures { result ≡ nat_le until at }
 {
     until <= at

@@ -101,7 +101,7 @@ impl PastEvents {
     }
 
     /// Notes that a task was woken. If `begins`, the arrow of its wake begins.
-    pub fn keep_wake(&mut self, task: u16, begins: bool)
+    pub fn note_wake(&mut self, task: u16, begins: bool)
         ensures { self.new ≡ after_wake task begins self.old }
     {
         let arrow = self.arrow_if(begins);
@@ -122,7 +122,7 @@ impl PastEvents {
     }
 
     /// Notes that a task started at a processor. If `begins`, an arrow leads there from the task's last run.
-    pub fn keep_start(&mut self, processor: u8, task: u16, begins: bool)
+    pub fn note_start(&mut self, processor: u8, task: u16, begins: bool)
         ensures { self.new ≡ after_start processor task begins self.old }
     {
         let wake = self.wake_arrow(task);
@@ -147,7 +147,7 @@ impl PastEvents {
     }
 
     /// Notes that a run of a task ended. `part` is the shown part of it, if any.
-    pub fn keep_run(&mut self, task: u16, part: Option<Slice>)
+    pub fn note_run(&mut self, task: u16, part: Option<Slice>)
         ensures { self.new ≡ after_run task part self.old }
     {
         if let Some(place) = self.runs.get_mut(usize::from(task)) {
@@ -173,7 +173,7 @@ impl PastEvents {
     }
 
     /// Notes the count that is written for a processor.
-    pub fn keep_count(&mut self, processor: u8, count: u64)
+    pub fn note_count(&mut self, processor: u8, count: u64)
         ensures { self.new ≡ after_count processor count self.old }
     {
         if let Some(place) = self.counts.get_mut(usize::from(processor)) {

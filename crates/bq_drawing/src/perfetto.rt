@@ -68,8 +68,8 @@ impl Perfetto {
         }
     }
 
-    /// Adds a wake and the beginning of its arrow, if the wake is shown.
-    fn take_wake(
+    /// Adds a wake and the beginning of its arrow to the text, if the wake is shown. Notes the wake in any case.
+    fn add_wake(
         &mut self,
         wake: Option<Wake>,
         shown: Option<Wake>,
@@ -82,13 +82,13 @@ impl Perfetto {
     {
         let arrow = self.history.next_arrow();
         if let Some(wake) = wake {
-            self.history.keep_wake(wake.task, shown.is_some());
+            self.history.note_wake(wake.task, shown.is_some());
         }
         write_wake(self.alloc, shown, arrow, names, text)
     }
 
-    /// Adds the shown part of the run that ends.
-    fn take_stop(
+    /// Adds the shown part of the run that ends, and notes that part.
+    fn add_stop(
         &mut self,
         stop: Option<Stop>,
         shown: Option<Slice>,
@@ -104,12 +104,12 @@ impl Perfetto {
             return Ok(());
         };
         self.write_run(Some(stop.start), shown, schedule, names, text)?;
-        self.history.keep_run(stop.start.task, shown);
+        self.history.note_run(stop.start.task, shown);
         Ok(())
     }
 
-    /// Adds the beginning of the arrow to a run that is a migration.
-    fn take_start(
+    /// Adds the beginning of the arrow to a run that is a migration. Notes the start in any case.
+    fn add_start(
         &mut self,
         start: Option<Start>,
         migration: Option<Start>,
@@ -123,13 +123,13 @@ impl Perfetto {
         let run = self.left_run(migration);
         if let Some(start) = start {
             self.history
-                .keep_start(start.processor, start.task, run.is_some());
+                .note_start(start.processor, start.task, run.is_some());
         }
         write_migration(arrow, run, text)
     }
 
-    /// Adds how many tasks are runnable at a processor, if the number has changed.
-    fn take_reading(
+    /// Adds how many tasks are runnable at a processor, if the number has changed, and notes it.
+    fn add_reading(
         &mut self,
         reading: Option<ClockReading>,
         schedule: &Schedule,
@@ -144,7 +144,7 @@ impl Perfetto {
         };
         let reported = self.history.written_count(reading.processor);
         let count = schedule.processor(reading.processor).runnable;
-        self.history.keep_count(reading.processor, count);
+        self.history.note_count(reading.processor, count);
         write_count(&reading, count, reported, text)
     }
 
@@ -499,11 +499,11 @@ impl ScheduleForm for Perfetto {
     {
         let shown = shown_of(&self.window, change);
         write_decision(shown.overruled, change.reading, text)?;
-        self.take_wake(change.wake, shown.wake, names, text)?;
+        self.add_wake(change.wake, shown.wake, names, text)?;
         write_pull(self.alloc, shown.pull, names, text)?;
-        self.take_stop(change.stop, shown.run, schedule, names, text)?;
-        self.take_start(change.start, shown.migration, text)?;
-        self.take_reading(shown.reading, schedule, text)
+        self.add_stop(change.stop, shown.run, schedule, names, text)?;
+        self.add_start(change.start, shown.migration, text)?;
+        self.add_reading(shown.reading, schedule, text)
     }
 
     /// Adds the shown parts of the runs that still go on, and the text after all events.

@@ -29,7 +29,7 @@ pub(crate) fn levels(
 {
     let mut levels = Lanes::new(alloc);
     for wake in wakes {
-        let _ = levels.take(&drawn_wake(wake, frame))?;
+        let _ = levels.allot(&drawn_wake(wake, frame))?;
     }
     Ok(levels.count())
 }
@@ -49,7 +49,7 @@ pub(crate) fn draw_waits(
     let mut text = String::new(alloc);
     let mut left_out = 0usize;
     for wait in waits {
-        let lane = lanes.take(wait)?;
+        let lane = lanes.allot(wait)?;
         write_wait_in(lane, wait, top, frame, &mut text)?;
         left_out = left_out.saturating_add(without_lane(lane));
     }
@@ -75,7 +75,7 @@ pub(crate) fn draw_wakes(
     let mut text = String::new(alloc);
     let mut left_out = 0usize;
     for wake in wakes {
-        let level = lanes.take(&drawn_wake(wake, frame))?;
+        let level = lanes.allot(&drawn_wake(wake, frame))?;
         write_wake_in(level, wake, top, frame, &mut text)?;
         left_out = left_out.saturating_add(without_lane(level));
     }

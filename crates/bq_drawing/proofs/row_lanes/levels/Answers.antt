@@ -7,7 +7,7 @@ use Rattle.bq_drawing.proofs.row_lanes.levels.Goals as goal
 pub loop-wake-preserved : goal.loop-wake-preserved
 loop-wake-preserved c =
     lanes_more (arrow_of c.args.frame.now.scale.extent) c.loop-wake.levels _ c.args.wakes.now c.loop-wake.wake-index _ _ _ _
-    c.loop-wake-test.true c.drawn_wake.ensures c.in_ok-take.ensures.lane c.in_ok-take.ensures.taken c.loop-wake.invariant
+    c.loop-wake-test.true c.drawn_wake.ensures c.in_ok-allot.ensures.lane c.in_ok-allot.ensures.taken c.loop-wake.invariant
 
 pub returns : goal.returns
 returns c =

@@ -7,10 +7,10 @@ use Rattle.bq_drawing.proofs.perfetto.PerfettoScheduleForm.add_change.Goals as g
 pub returns-clause-events : goal.returns-clause-events
 returns-clause-events c =
     on_ok_weaker _ (events_added c.args.self.now.window c.args.names.now c.args.schedule.now
-    c.args.change.now c.shown_of-shown.result c.args.self.now.history c.take_wake.new.self.history
-    c.take_stop.new.self.history c.take_start.new.self.history c.take_reading.new.self.history
+    c.args.change.now c.shown_of-shown.result c.args.self.now.history c.add_wake.new.self.history
+    c.add_stop.new.self.history c.add_start.new.self.history c.add_reading.new.self.history
     _ _ _ _ _ _ _ c.shown_of-shown.ensures c.in_ok-write_decision.ensures
-    (ap (λ (p : Perfetto). p.history) c.take_wake.ensures.history) c.in_ok-take_wake.ensures.text c.in_ok-write_pull.ensures
-    (ap (λ (p : Perfetto). p.history) c.in_ok-take_stop.ensures.history) c.in_ok-take_stop.ensures.text
-    (ap (λ (p : Perfetto). p.history) c.take_start.ensures.history) c.in_ok-take_start.ensures.text
-    (ap (λ (p : Perfetto). p.history) c.take_reading.ensures.history)) c.take_reading.ensures.text
+    (ap (λ (p : Perfetto). p.history) c.add_wake.ensures.history) c.in_ok-add_wake.ensures.text c.in_ok-write_pull.ensures
+    (ap (λ (p : Perfetto). p.history) c.in_ok-add_stop.ensures.history) c.in_ok-add_stop.ensures.text
+    (ap (λ (p : Perfetto). p.history) c.add_start.ensures.history) c.in_ok-add_start.ensures.text
+    (ap (λ (p : Perfetto). p.history) c.add_reading.ensures.history)) c.add_reading.ensures.text
