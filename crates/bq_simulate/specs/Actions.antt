@@ -86,7 +86,7 @@ wake_target kinds progress = aim_of kinds progress (next_action kinds progress)
 
 -- the task to which the wake comes of one that does this
 abbrev pub aim_in : List TaskKind → Doing → Option ℕ
-aim_in kinds doing = aim_of kinds doing.before doing.action
+aim_in kinds doing = aim_of kinds doing.progress_before doing.action
 
 -- a task is of the kind with this number: its tasks follow the tasks of the kinds before it
 pub record IsTaskOfKind (kinds : List TaskKind) (task number : ℕ) : Type 0 where

@@ -22,8 +22,8 @@ use std::alloc::Global;
 #[derive(Drop)]
 struct Doing {
     task: u16,
-    /// How far it had come.
-    before: TaskProgress,
+    /// How far it had come when it took the action up.
+    progress_before: TaskProgress,
     /// None if it has done all its actions as often as it is to.
     action: Option<Action>,
 }
@@ -184,7 +184,7 @@ impl Simulation {
         self.roster.take_up(processor, task, after)?;
         Ok(Doing {
             task,
-            before,
+            progress_before: before,
             action,
         })
     }
@@ -210,7 +210,7 @@ impl Simulation {
         sink: &mut S,
     ) -> Result<(), SimulateFault>
         ensures goes_on { OnOk result (GoesOnByKinds S.takes (λ kinds. FollowsAction doing.now.action (aim_in kinds doing.now) processor now) sink.old self.old sink.new self.new) }
-        ensures ends { (w : Workload) → CanFollow w doing.now.action doing.now.before processor now self.old → IfErr result WantsMemory }
+        ensures ends { (w : Workload) → CanFollow w doing.now.action doing.now.progress_before processor now self.old → IfErr result WantsMemory }
     {
         match doing.action {
             Some(Action::Run(_)) => Ok(()),
@@ -218,7 +218,14 @@ impl Simulation {
             Some(Action::Wait) => self.block(alloc, processor, now, sink),
             None => self.block(alloc, processor, now, sink),
             Some(Action::Wake(kind)) => {
-                self.wake_next(alloc, processor, kind, doing.before.woken, now, sink)
+                self.wake_next(
+                    alloc,
+                    processor,
+                    kind,
+                    doing.progress_before.woken,
+                    now,
+                    sink,
+                )
             }
         }
     }
@@ -265,7 +272,7 @@ impl Simulation {
         match progress.task_state {
             TaskState::Waiting => self.wake(alloc, processor, target, now, sink),
             _ => {
-                self.miss();
+                self.count_missed_wake();
                 Ok(())
             }
         }
@@ -279,8 +286,8 @@ impl Simulation {
         self.firsts.get(kind).copied().ok_or(BrokenInvariant)
     }
 
-    /// A wake comes to a task that does not wait.
-    fn miss(&mut self)
+    /// Counts a wake that came to a task that does not wait.
+    fn count_missed_wake(&mut self)
         ensures { OnlyPlansOrCounts self.old self.new }
     {
         self.counts.missed = self.counts.missed.saturating_add(1);

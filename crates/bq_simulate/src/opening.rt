@@ -112,7 +112,7 @@ impl Simulation {
         'tasks: for _ in 0..kind.count {
             let task = self.counts.tasks;
             self.admit_one(alloc, task, kind, sink)?;
-            self.join(task, number, home, kind.start)?;
+            self.add_task(task, number, home, kind.start)?;
             self.count_task(task);
         }
         Ok(())
@@ -160,7 +160,13 @@ impl Simulation {
 
     /// Adds one more task of a kind, with a stream of its own. Its first wake is at the start of its kind, from this processor,
     /// and its timer is planned.
-    fn join(&mut self, task: u16, kind: usize, home: u8, start: u64) -> Result<(), SimulateFault>
+    fn add_task(
+        &mut self,
+        task: u16,
+        kind: usize,
+        home: u8,
+        start: u64,
+    ) -> Result<(), SimulateFault>
         ensures goes_on { OnOk result (JoinsNext kind home start self.old self.new) }
         ensures number { OnOk result (task ≡ length self.old.streams.items) }
         ensures streams { OnOk result (length self.new.streams.items ≡ length self.old.streams.items + 1) }

@@ -89,7 +89,7 @@ impl Simulation {
             Due::End(processor) => self.act(alloc, workload, processor, now, sink),
             Due::Wake(task) => self.wake_by_timer(alloc, task, now, sink),
             Due::Tick(processor) => self.tick_on_time(alloc, processor, now, sink),
-            Due::Look(processor) => self.look(alloc, processor, now, sink),
+            Due::Look(processor) => self.look_for_pull(alloc, processor, now, sink),
         }
     }
 
@@ -171,7 +171,7 @@ impl Simulation {
     }
 
     /// A processor looks now for a task in the queue of the processor that has the most, if that is another, and pulls it.
-    fn look<S: Sink>(
+    fn look_for_pull<S: Sink>(
         &mut self,
         alloc: Global,
         processor: u8,
@@ -201,7 +201,7 @@ impl Simulation {
         ensures ends { (w : Workload) → SimulationGoesWell w now self.old → HasBoth processor from self.old → IfErr result WantsMemory }
     {
         let moved = self.driver.pull(alloc, processor, from, now, sink)?;
-        keep_pull(&mut self.roster, processor, from, moved, now)?;
+        record_pull(&mut self.roster, processor, from, moved, now)?;
         Ok(())
     }
 
@@ -220,8 +220,8 @@ impl Simulation {
     }
 }
 
-/// What came of a pull is kept.
-fn keep_pull(
+/// Records in the accounts what the machine did at a pull: which task it moved, and which task runs at the puller.
+fn record_pull(
     roster: &mut Roster,
     processor: u8,
     from: u8,
@@ -233,12 +233,12 @@ fn keep_pull(
     ensures periods { roster.new.periods ≡ roster.old.periods }
     ensures stray { IfErr result (λ _. IsStrayPull roster.old.periods processor from moved.task moved.run now (accounts_of roster.old)) }
 {
-    pass_where_taken(roster, moved.task, from, processor)?;
+    move_pulled(roster, moved.task, from, processor)?;
     roster.switch(processor, moved.run, now)
 }
 
-/// A task that was taken has gone from the queue of one processor to another.
-fn pass_where_taken(
+/// Moves a task that was taken from the queue of one processor to another, in the accounts. Does nothing if none was taken.
+fn move_pulled(
     roster: &mut Roster,
     taken: Option<u16>,
     from: u8,

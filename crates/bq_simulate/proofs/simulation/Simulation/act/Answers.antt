@@ -15,7 +15,7 @@ returns-clause-goes_on g c =
     let processor = c.args.processor in
     let now = c.args.now in
     let doing = c.in_ok-doing.doing in
-    let aim = aim_of kinds doing.before doing.action in
+    let aim = aim_of kinds doing.progress_before doing.action in
     let acts = IsAct processor doing.task now doing.action aim in
     let follows = FollowsAction doing.action aim processor now in
     let meets : (xs ys : List Deed) → acts xs → follows ys → DeedsMeet (End processor) now (xs ++ ys) =
@@ -34,5 +34,5 @@ returns-clause-ends g c = λ well next.
     let now = c.args.now in
     let mid = c.take_action.new.self in
     let goes = c.in_ok-doing.ensures.acts well.drawn well.streams well.firsts in
-    let follows = can_follow doing.action w doing.before now processor doing.task c.args.self.now mid well goes in
+    let follows = can_follow doing.action w doing.progress_before now processor doing.task c.args.self.now mid well goes in
     c.follow.ensures.ends w follows

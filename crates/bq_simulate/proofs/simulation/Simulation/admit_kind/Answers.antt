@@ -64,7 +64,7 @@ tasks-preserved g c =
     let joined =
     GoesOnBy-join takes kinds admits joins one (λ xs ys admit join. admission-of all number kind task home xs ys mine admit join)
     _ _ _ _ _ _ (c.in_ok-admit_one.ensures.goes_on kinds)
-    (GoesOnBy-unreported takes kinds joins _ _ _ (c.in_ok-join.ensures.goes_on kinds of start (streams ∙ sym here))) in
+    (GoesOnBy-unreported takes kinds joins _ _ _ (c.in_ok-add_task.ensures.goes_on kinds of start (streams ∙ sym here))) in
     let begun = GoesOnBy-then takes kinds one _ _ _ _ _ joined c.count_task.ensures.same in
     let before = AreAdmitted all number kind first count in
     let after = AreAdmitted all number kind first (count + 1) in
@@ -72,15 +72,15 @@ tasks-preserved g c =
     let more : (xs ys : List Deed) → before xs → one ys → after (xs ++ ys) =
     λ xs ys h k.
     subst (λ (n : ℕ). AreAdmitted all number kind first n (xs ++ ys)) next
-    (AreAdmitted-more all number kind first count task xs ys (c.in_ok-join.ensures.number ∙ streams) h k) in
+    (AreAdmitted-more all number kind first count task xs ys (c.in_ok-add_task.ensures.number ∙ streams) h k) in
     record {
       goes_on = GoesOnBy-join takes kinds before one after more _ _ _ _ _ _ c.tasks.invariant.goes_on begun;
-      tasks = ap (λ v. length v.items) c.count_task.ensures.by_task ∙ c.in_ok-join.ensures.tasks ∙ omega (arith, here, c.requires.first);
+      tasks = ap (λ v. length v.items) c.count_task.ensures.by_task ∙ c.in_ok-add_task.ensures.tasks ∙ omega (arith, here, c.requires.first);
       streams =
-          ap (λ v. length v.items) c.count_task.ensures.same.stays.streams ∙ c.in_ok-join.ensures.streams
+          ap (λ v. length v.items) c.count_task.ensures.same.stays.streams ∙ c.in_ok-add_task.ensures.streams
           ∙ omega (arith, streams, c.requires.streams);
       firsts =
-          c.count_task.ensures.same.stays.firsts ∙ c.in_ok-join.ensures.firsts ∙ c.in_ok-admit_one.ensures.firsts
+          c.count_task.ensures.same.stays.firsts ∙ c.in_ok-add_task.ensures.firsts ∙ c.in_ok-admit_one.ensures.firsts
           ∙ c.tasks.invariant.firsts;
       counted = λ opens.
           let here : task ≡ first + count = c.tasks.invariant.counted opens in
@@ -136,8 +136,8 @@ returns-in_err-admit_one-clause-ends g c = λ opens.
     (record { few = few; numbers = numbers; first = mine }) in
     err-by c.from_residual-in_err-admit_one.result c.from_residual-in_err-admit_one.ensures.1 (λ e is. is ∙ wants)
 
-pub returns-in_err-join-clause-ends : goal.returns-in_err-join-clause-ends
-returns-in_err-join-clause-ends g c = λ opens.
+pub returns-in_err-add_task-clause-ends : goal.returns-in_err-add_task-clause-ends
+returns-in_err-add_task-clause-ends g c = λ opens.
     let w = c.args.workload.now in
     let kind = c.args.kind.now in
     let number = c.args.number in
@@ -149,5 +149,5 @@ returns-in_err-join-clause-ends g c = λ opens.
     let streams : length c.admit_one.new.self.streams.items ≡ first + count =
     ap (λ v. length v.items) c.in_ok-admit_one.ensures.streams ∙ c.tasks.invariant.streams
     ∙ ap (λ n. n + count) c.requires.streams in
-    let wants = c.in_err-join.ensures.ends (here ∙ sym streams) few in
-    err-by c.from_residual-in_err-join.result c.from_residual-in_err-join.ensures.1 (λ e is. is ∙ wants)
+    let wants = c.in_err-add_task.ensures.ends (here ∙ sym streams) few in
+    err-by c.from_residual-in_err-add_task.result c.from_residual-in_err-add_task.ensures.1 (λ e is. is ∙ wants)

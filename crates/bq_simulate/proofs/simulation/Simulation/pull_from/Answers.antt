@@ -19,12 +19,12 @@ returns-clause-goes_on g c =
     let takes = ap (λ (o : Option ℕ). accounts_switched c.args.processor (runs_now stated.0) c.args.now was.periods (moved o)) (sym stated.2) in
     GoesOnBy-event g.S.Sink.takes (AreJustEvents (event ∷ [])) _ _ _ _ event stated.0 (stated.0, [], refl, refl) tt
     (record {
-      agrees = c.in_ok-keep_pull.ensures.agrees;
-      periods = c.in_ok-keep_pull.ensures.periods;
+      agrees = c.in_ok-record_pull.ensures.agrees;
+      periods = c.in_ok-record_pull.ensures.periods;
       seed = refl;
       streams = refl;
       firsts = refl;
-    }) stated.3 (c.in_ok-keep_pull.ensures.accounts ∙ runs ∙ takes)
+    }) stated.3 (c.in_ok-record_pull.ensures.accounts ∙ runs ∙ takes)
 
 -- a pull fails only for memory
 pub returns-in_err-moved-clause-ends : goal.returns-in_err-moved-clause-ends
@@ -35,13 +35,13 @@ returns-in_err-moved-clause-ends g c =
     c.in_err-moved.field-0.0 c.in_err-moved.ensures.fault))
 
 -- what came of a pull can be kept
-pub returns-in_err-keep_pull-clause-ends : goal.returns-in_err-keep_pull-clause-ends
-returns-in_err-keep_pull-clause-ends g c =
+pub returns-in_err-record_pull-clause-ends : goal.returns-in_err-record_pull-clause-ends
+returns-in_err-record_pull-clause-ends g c =
     let stated = c.in_ok-moved.ensures.does in
     let was = c.args.self.now in
     let here = c.pull.new.self in
     let now = c.args.now in
-    λ w well two. elim c.in_err-keep_pull.ensures.stray [
+    λ w well two. elim c.in_err-record_pull.ensures.stray [
       | inl astray ↦
           absurd (pull_passes w now was here c.args.processor c.args.from c.in_ok-moved.moved.task stated.0 stated.3.reported
           well two.0 two.2 stated.2 stated.3.holds astray.0 astray.1)

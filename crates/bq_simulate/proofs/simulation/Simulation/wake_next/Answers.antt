@@ -49,7 +49,7 @@ returns-in_default-task_state-clause-goes_on g c =
     c.args.self.now c.args.self.now _ (Misses target) (Stays-here c.args.self.now)
     (λ kinds drawn. (c.in_ok-progress.progress, c.in_ok-progress.ensures.there, c.in_default-task_state.not-Waiting, (refl, refl, refl)))
     (λ deeds none. inl (ap (λ (l : List Deed). Misses target ∷ l) none))
-    (GoesOnBy-same takes (AreJustEvents []) refl _ _ _ c.miss.ensures))
+    (GoesOnBy-same takes (AreJustEvents []) refl _ _ _ c.count_missed_wake.ensures))
 
 -- the first task of a kind whose tasks are woken is kept
 pub returns-in_err-first-clause-ends : goal.returns-in_err-first-clause-ends

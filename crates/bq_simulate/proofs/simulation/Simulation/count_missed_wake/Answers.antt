@@ -1,5 +1,5 @@
 use Rattle.std.proofs.Common.{refl}
-use Rattle.bq_simulate.proofs.simulation.Simulation.miss.Goals as goal
+use Rattle.bq_simulate.proofs.simulation.Simulation.count_missed_wake.Goals as goal
 
 pub returns : goal.returns
 returns c = record {

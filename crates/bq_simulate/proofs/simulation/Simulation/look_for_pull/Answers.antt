@@ -11,7 +11,7 @@ use Rattle.bq_simulate.specs.Steps.{AreJustEvents, DeedsMeet}
 use Rattle.bq_simulate.proofs.BeatAndLookLemmas.{looks, well_looked}
 use Rattle.bq_simulate.proofs.ComesDueLemmas.{looks_now, pulls_from}
 use Rattle.bq_simulate.proofs.DeedLemmas.{GoesOnForAnyKinds-looks, GoesOnBy-same, OnlyPlansOrCounts-here}
-use Rattle.bq_simulate.proofs.simulation.Simulation.look.Goals as goal
+use Rattle.bq_simulate.proofs.simulation.Simulation.look_for_pull.Goals as goal
 
 pub returns-in-Some-clause-goes_on : goal.returns-in-Some-clause-goes_on
 returns-in-Some-clause-goes_on g c =

@@ -7,7 +7,7 @@ use Rattle.bq_workload.specs.TaskProgress.{fresh_task}
 use Rattle.bq_workload.specs.Next.{StaysAgreed}
 use Rattle.bq_workload.proofs.RosterAgreesLemmas.{added-agreed}
 use Rattle.bq_simulate.proofs.DeedLemmas.{GoesOnUnreported-joins}
-use Rattle.bq_simulate.proofs.simulation.Simulation.join.Goals as goal
+use Rattle.bq_simulate.proofs.simulation.Simulation.add_task.Goals as goal
 
 pub returns-in-Ok-clause-goes_on : goal.returns-in-Ok-clause-goes_on
 returns-in-Ok-clause-goes_on c =
