@@ -27,7 +27,7 @@ use Rattle.bq_lines.specs.declared.command.LineCommand.{LineCommand}
 use Rattle.bq_lines.specs.declared.command.LineCommand.TheVariants.{Does, Machine}
 use Rattle.bq_lines.specs.declared.command.LineReading.TheVariants.{Asks}
 use Rattle.bq_simulate.specs.Spelling.{HasFittingNumbers, event_words, image_word, spaced_words}
-use Rattle.bq_simulate.specs.Laws.{CanStandInLine, event_command, install_asked}
+use Rattle.bq_simulate.specs.LineLaws.{CanStandInLine, event_command, install_asked}
 use Rattle.bq_simulate.proofs.HexWordLemmas.{plain_hex, hex_not_none}
 use Rattle.bq_simulate.proofs.NumberWordLemmas.{plain_decimal, plain_signed, short_decimal, short_signed, decimal_of-decimal, processor_of-decimal, task_of-decimal, mask_of-decimal, nice_of-signed}
 use Rattle.bq_simulate.proofs.PlainWordLemmas.{IsPlain, is_plain, room, words-spaced, allowed-spaced, length-spaced}

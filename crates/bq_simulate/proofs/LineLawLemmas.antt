@@ -6,7 +6,7 @@ use Rattle.std.proofs.lemmas.Bool.Decides.{nat_tests}
 use Rattle.std.proofs.lemmas.List.Elements.{All-from_recursion}
 use Rattle.bq_lines.specs.Bytes.{is_allowed}
 use Rattle.bq_simulate.specs.Spelling.{asking_line, event_words, machine_line}
-use Rattle.bq_simulate.specs.Laws.{AreLines, EventsAreRead, MachinesAreRead, IsWholeLine}
+use Rattle.bq_simulate.specs.LineLaws.{AreLines, EventsAreRead, MachinesAreRead, IsWholeLine}
 use Rattle.bq_simulate.proofs.EventWordLemmas.{reading-spaced, plain_words, room_words, words_read, machine_words, plain_machine, room_machine, machine_reads}
 use Rattle.bq_simulate.proofs.PlainWordLemmas.{allowed-spaced}
 

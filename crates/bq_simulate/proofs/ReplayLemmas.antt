@@ -22,7 +22,7 @@ use Rattle.bq_load.specs.Answers.{Loads}
 use Rattle.bq_load.specs.Layout.{Header, IsFramed, header_bytes}
 use Rattle.bq_load.proofs.JudgingLemmas.{header_fits, length-header_bytes}
 use Rattle.bq_simulate.specs.Spelling.{HasFittingNumbers, asking_line, machine_line}
-use Rattle.bq_simulate.specs.Laws.{CanStandInLine, IsWholeLine, event_command}
+use Rattle.bq_simulate.specs.LineLaws.{CanStandInLine, IsWholeLine, event_command}
 use Rattle.bq_simulate.proofs.LineLawLemmas.{are_lines, events_are_read, machines_are_read}
 use Rattle.bq_parts.specs.Events.{without_policy}
 use Rattle.bq_streams.specs.Counts.{one_more}

@@ -8,7 +8,7 @@ pub mod Faults
 pub mod GoingWell
 pub mod Kept
 pub mod KeptLaws
-pub mod Laws
+pub mod LineLaws
 pub mod Replays
 pub mod Simulations
 pub mod Spelling

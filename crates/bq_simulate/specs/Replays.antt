@@ -12,7 +12,7 @@ use Rattle.bq_parts.specs.declared.event.Event.TheVariants.{Install}
 use Rattle.bq_simulate.specs.Texts.{AreFitting, ByHook, reported_lines}
 use Rattle.bq_words.specs.declared.discipline_name.DisciplineName.{DisciplineName}
 use Rattle.bq_words.specs.declared.processor_count.ProcessorCount.{ProcessorCount}
-use Rattle.bq_simulate.specs.Laws.{IsWholeLine}
+use Rattle.bq_simulate.specs.LineLaws.{IsWholeLine}
 use Rattle.bq_trace.specs.Feeding.{with_feeds}
 use Rattle.bq_trace.specs.TraceEvents.{Reported, texts}
 use Rattle.bq_trace.specs.Trace.{TraceText}

@@ -1,5 +1,5 @@
-//! Laws of the definitions.
-ghost use Rattle.bq_simulate.specs.Laws.{AreLines, EventsAreRead, ImagesAreRead, MachinesAreRead};
+//! Laws of lines: what a line asks for is what it was written for.
+ghost use Rattle.bq_simulate.specs.LineLaws.{AreLines, EventsAreRead, ImagesAreRead, MachinesAreRead};
 
 /// The line that is written for an event asks for that event.
 pub fn events_are_read()

@@ -1,6 +1,6 @@
 //! A sink receives the events of a trace, one by one. The text that answers a trace is a sink.
 ghost use Rattle.std.specs.Prelude.{◌≡◌, ◌++◌, ℕ, OnOk, string_bytes};
-ghost use Rattle.bq_trace.specs.TraceEvents.{TraceEvent as Traced, text_of};
+ghost use Rattle.bq_trace.specs.TraceEvents.{TraceEvent as TraceEventValue, text_of};
 ghost use Rattle.bq_trace.specs.Borrowed.{event_of};
 
 use crate::loading::write_fault;
@@ -14,7 +14,7 @@ use std::alloc::AllocError;
 /// A `String` is a sink: it receives the lines that answer a trace.
 pub trait Sink {
     /// How an event with the number of its line changes the sink: the sink before and after.
-    ghost takes: { Self → ℕ → Traced → Self → Type 0 };
+    ghost takes: { Self → ℕ → TraceEventValue → Self → Type 0 };
 
     /// Receives an event. `number` is the number of its line, from 1. It is 0 for a comment that a simulation puts above the trace.
     fn receive(&mut self, number: u64, event: &TraceEvent<'_>) -> Result<(), AllocError>

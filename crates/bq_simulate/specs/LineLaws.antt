@@ -1,4 +1,4 @@
--- Laws of the definitions: what a line asks for is what it was written for.
+-- Laws of lines: what a line asks for is what it was written for.
 use Rattle.std.specs.Prelude.{◌≡◌, ℕ, ◌<◌, ◌≤◌, List, length, Option, Some, None, Ok}
 use Rattle.std.specs.Str.Lines.{strip_carriage_return}
 use Rattle.hex.specs.Hex.{IsBytes, decode_of, encode_lower}

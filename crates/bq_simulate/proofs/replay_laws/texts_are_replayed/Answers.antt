@@ -1,5 +1,5 @@
 use Rattle.bq_simulate.proofs.ReplayLemmas as lemmas
-use Rattle.bq_simulate.proofs.laws.texts_are_replayed.Goals as goal
+use Rattle.bq_simulate.proofs.replay_laws.texts_are_replayed.Goals as goal
 
 pub returns : goal.returns
 returns c = lemmas.texts_are_replayed
