@@ -19,12 +19,12 @@ ComplainsOf text None = IsAssembly text
 ComplainsOf text (Some reported) = ¬ (IsAssembly text)
 
 -- the beginning of a complaint of a line; lines are counted from 1, and line 0 means that the text has no instruction
-abbrev pub line_words : ℕ → List ℕ
-line_words line = if line == 0 then codes "the text has no instruction" else codes "line " ++ (decimal line ++ codes ": ")
+abbrev pub line_beginning : ℕ → List ℕ
+line_beginning line = if line == 0 then codes "the text has no instruction" else codes "line " ++ (decimal line ++ codes ": ")
 
 -- the complaint of a text begins with the line of its fault
 pub record NamesLine (text reported : List ℕ) : Type 0 where
   pub line : ℕ
   pub cause : AssemblyCause
   pub fault : FaultyLines (lines_of text) line cause
-  pub begins : StartsWith (line_words line) reported
+  pub begins : StartsWith (line_beginning line) reported

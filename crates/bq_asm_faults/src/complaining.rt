@@ -2,7 +2,7 @@
 ghost use Rattle.std.specs.Prelude.{IfOk, IfSome, string_bytes};
 ghost use Rattle.std.specs.Str.{IsUtf8};
 ghost use Rattle.bq_insn.specs.Appending.{StartsWith};
-ghost use Rattle.bq_asm_faults.specs.Complaints.{ComplainsOf, NamesLine, line_words};
+ghost use Rattle.bq_asm_faults.specs.Complaints.{ComplainsOf, NamesLine, line_beginning};
 
 use crate::line_reason::line_reason;
 use crate::text_kind::{TextKind, kind_of_text};
@@ -31,7 +31,7 @@ fn line_complaint(
     number: usize,
     cause: AssemblyCause,
 ) -> Result<String, AllocError>
-    ensures { IfOk result (λ reported. StartsWith (line_words number) (string_bytes reported)) }
+    ensures { IfOk result (λ reported. StartsWith (line_beginning number) (string_bytes reported)) }
 {
     if number == 0 {
         return String::from_str(alloc, "the text has no instruction\n");
@@ -41,7 +41,7 @@ fn line_complaint(
 }
 
 /// Says why the assembler refuses the line of that number, for that cause; line 0 means that the text has no instruction.
-pub fn assembly_words(
+pub fn assembly_fault_text(
     alloc: Global,
     text: &str,
     number: usize,

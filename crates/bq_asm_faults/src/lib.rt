@@ -10,6 +10,6 @@ mod number_reason;
 mod text_kind;
 mod vocabulary;
 
-pub use complaining::{assembly_words, complaint};
+pub use complaining::{assembly_fault_text, complaint};
 pub use line_reason::with_nul_shown;
 pub use text_kind::{TextKind, kind_of_text};

@@ -16,12 +16,12 @@ map_shapes_text [] = codes "none"
 map_shapes_text (first ∷ rest) = decimal first.value_size ++ (codes ":" ++ (decimal first.entries ++ more_maps rest))
 
 -- the words on a policy that is accepted: its hook, its budget, its version and its maps
-abbrev pub accepted_words : PolicySource → ℕ → List ℕ
-accepted_words p budget =
+abbrev pub accepted_beginning : PolicySource → ℕ → List ℕ
+accepted_beginning p budget =
     codes "accepted " ++ (hook_word p.form.hook ++ (codes " budget " ++ (decimal budget ++ (codes " of " ++ (decimal SLOTS ++ (codes ", version "
     ++ (decimal (version_number p.form.version) ++ (codes ", maps " ++ map_shapes_text p.form.shapes.items))))))))
 
 -- the first words on a policy: those of an accepted one, or otherwise the whole line of the verdict
-abbrev pub first_words : PolicySource → Verdict → List ℕ
-first_words p (Accepted budget) = accepted_words p budget
-first_words p verdict = verdict_line p.form.hook verdict
+abbrev pub text_beginning : PolicySource → Verdict → List ℕ
+text_beginning p (Accepted budget) = accepted_beginning p budget
+text_beginning p verdict = verdict_line p.form.hook verdict

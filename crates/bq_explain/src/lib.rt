@@ -8,7 +8,7 @@
 
 mod access_advice;
 mod advice;
-mod advice_words;
+mod advice_texts;
 mod after;
 mod explanation;
 mod graph_fault;
@@ -18,17 +18,17 @@ mod makers;
 mod measure;
 mod program_point;
 mod refusal;
-mod state_words;
+mod state_text;
 mod summary;
 mod text;
 mod trail;
-mod trail_words;
+mod trail_text;
 mod verdict;
 mod ways;
 
 pub use access_advice::{AccessRange, Reach};
 pub use advice::{Advice, Missing};
-pub use advice_words::advice_text;
+pub use advice_texts::advice_text;
 pub use explanation::{Detail, Explanation, explain};
 pub use graph_fault::GraphFault;
 pub use join_point::{IncomingWay, JoinPoint};
@@ -37,6 +37,6 @@ pub use measure::Measure;
 pub use program_point::{ProgramPoint, index_at};
 pub use refusal::{ExplainedRefusal, Finding};
 pub use summary::{Summary, maps_text};
-pub use text::{explanation_text, need_words};
+pub use text::{explanation_text, finding_text};
 pub use trail::{ClobberedRegisters, RegisterMaker, Trail};
 pub use verdict::{Verdict, judge, verdict_line};

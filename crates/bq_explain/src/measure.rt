@@ -45,8 +45,8 @@ impl Measure {
 }
 
 impl Measure {
-    /// Says in words what the measure counts.
-    pub(crate) fn words(self) -> &'static str {
+    /// Says what the measure counts.
+    pub(crate) fn text(self) -> &'static str {
         match self {
             Measure::Maps => "maps",
             Measure::MapBytes => "bytes in the values of all maps",

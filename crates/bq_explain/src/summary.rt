@@ -1,7 +1,7 @@
 //! The summary of an accepted program: what the program uses, as a value and as one line.
 ghost use Rattle.std.specs.Prelude.{◌≡◌, IfOk, string_bytes};
 ghost use Rattle.bq_insn.specs.Appending.{StartsWith};
-ghost use Rattle.bq_explain.specs.Beginnings.{accepted_words, map_shapes_text};
+ghost use Rattle.bq_explain.specs.Beginnings.{accepted_beginning, map_shapes_text};
 
 use crate::measure::counter_calls;
 use bq_bpf::MapShape;
@@ -37,9 +37,9 @@ pub(crate) fn summary_text(
     budget: u32,
     summary: &Summary,
 ) -> Result<String, AllocError>
-    ensures { IfOk result (λ text. StartsWith (accepted_words policy.now budget) (string_bytes text)) }
+    ensures { IfOk result (λ text. StartsWith (accepted_beginning policy.now budget) (string_bytes text)) }
 {
-    let words = accepted_words(alloc, policy, budget)?;
+    let words = accepted_beginning(alloc, policy, budget)?;
     let helpers = helpers_text(alloc, summary.helpers.as_slice())?;
     let counters = summary.counters;
     let slots = summary.slots;
@@ -47,12 +47,12 @@ pub(crate) fn summary_text(
 }
 
 /// Writes the beginning of the line on an accepted program: hook, budget, version and maps.
-pub(crate) fn accepted_words(
+pub(crate) fn accepted_beginning(
     alloc: Global,
     policy: &PolicySource,
     budget: u32,
 ) -> Result<String, AllocError>
-    ensures { IfOk result (λ text. string_bytes text ≡ accepted_words policy.now budget) }
+    ensures { IfOk result (λ text. string_bytes text ≡ accepted_beginning policy.now budget) }
 {
     let hook = policy.form.hook.word();
     let version = policy.form.version.number();

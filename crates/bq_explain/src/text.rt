@@ -1,20 +1,20 @@
 //! An explanation in words.
 ghost use Rattle.std.specs.Prelude.{◌≡◌, IfOk, false, string_bytes};
 ghost use Rattle.bq_insn.specs.Appending.{StartsWith};
-ghost use Rattle.bq_explain.specs.Beginnings.{accepted_words, first_words};
+ghost use Rattle.bq_explain.specs.Beginnings.{accepted_beginning, text_beginning};
 ghost use Rattle.bq_explain.specs.Explained.{DescribesDetail, DescribesRefusal};
 ghost use Rattle.bq_explain.specs.TrailTexts.{DescribesTrail};
 ghost use Rattle.bq_explain.specs.Verdicts.{is_accepted};
 
-use crate::advice_words::advice_text;
+use crate::advice_texts::advice_text;
 use crate::explanation::{Detail, Explanation};
 use crate::graph_fault::graph_text;
 use crate::limits::ExceededLimit;
 use crate::program_point::{ProgramPoint, instruction_line};
 use crate::refusal::{ExplainedRefusal, Finding};
-use crate::state_words::state_text;
-use crate::summary::{accepted_words, summary_text};
-use crate::trail_words::trail_text;
+use crate::state_text::state_text;
+use crate::summary::{accepted_beginning, summary_text};
+use crate::trail_text::trail_text;
 use crate::verdict::{Verdict, verdict_line};
 use bq_needs::need_text;
 use bq_policy_file::PolicySource;
@@ -28,7 +28,7 @@ pub fn explanation_text(
     name: Option<&str>,
     explanation: &Explanation,
 ) -> Result<String, AllocError>
-    ensures begins { IfOk result (λ text. StartsWith (first_words policy.now explanation.now.verdict) (string_bytes text)) }
+    ensures begins { IfOk result (λ text. StartsWith (text_beginning policy.now explanation.now.verdict) (string_bytes text)) }
     ensures describes { IfOk result (λ text. is_accepted explanation.now.verdict ≡ false → DescribesDetail policy.now explanation.now.detail (string_bytes text)) }
 {
     match explanation.verdict {
@@ -47,11 +47,11 @@ fn accepted_text(
     budget: u32,
     detail: &Detail,
 ) -> Result<String, AllocError>
-    ensures { IfOk result (λ text. StartsWith (accepted_words policy.now budget) (string_bytes text)) }
+    ensures { IfOk result (λ text. StartsWith (accepted_beginning policy.now budget) (string_bytes text)) }
 {
     match detail {
         Detail::Accepted(summary) => summary_text(alloc, policy, budget, summary),
-        Detail::Limited(_) | Detail::Refused(_) => accepted_words(alloc, policy, budget),
+        Detail::Limited(_) | Detail::Refused(_) => accepted_beginning(alloc, policy, budget),
     }
 }
 
@@ -104,7 +104,7 @@ fn limit_text(
                 used,
                 most,
             } = over;
-            let what = measure.words();
+            let what = measure.text();
             let word = measure.word();
             format!(in alloc; "  {what}: {used}; the limit of --max-{word} is {most}\n")
         }
@@ -140,7 +140,7 @@ fn refusal_text(
 }
 
 /// Says what is wrong with the refused instruction, without the state that is known before the instruction.
-pub fn need_words(
+pub fn finding_text(
     alloc: Global,
     policy: &PolicySource,
     refusal: &ExplainedRefusal,

@@ -14,7 +14,7 @@ use Rattle.bq_insn.specs.Appending.{StartsWith}
 use Rattle.bq_words.specs.Refused.{refused_line}
 use Rattle.bq_load.specs.Naming.{load_fault_text as image_text}
 use Rattle.bq_load.specs.declared.fault.LoadFault.TheVariants as load
-use Rattle.bq_explain.specs.Beginnings.{first_words}
+use Rattle.bq_explain.specs.Beginnings.{text_beginning}
 use Rattle.bq_explain.specs.Measures.{measure_word}
 use Rattle.bq_explain.specs.Verdicts.{is_accepted}
 use Rattle.bq_explain.specs.declared.verdict.Verdict.{Verdict}
@@ -75,7 +75,7 @@ first_refused why text line begins is = is ∙ ap first_line begins.1 ∙ first_
 
 -- the first line of a text that begins with a verdict's words is the verdict's first line
 first_of_verdict : (p : PolicySource) (verdict : Verdict) (text line : List ℕ)
-    → StartsWith (first_words p verdict) text → line ≡ first_line text → IsFirstLine p verdict line
+    → StartsWith (text_beginning p verdict) text → line ≡ first_line text → IsFirstLine p verdict line
 first_of_verdict p (Accepted budget) text line begins is = (text, begins, is)
 first_of_verdict p (OverSteps budget most) text line begins is =
     first_refused (codes "limit steps " ++ (decimal budget ++ (codes " of " ++ decimal most))) text line begins is
@@ -106,7 +106,7 @@ shows named old new text apart is line =
 
 -- an object whose last members are the answer's and those of the verdict shows the verdict
 pub shows_verdict : (p : PolicySource) (verdict : Verdict) (first prose text : List ℕ) (old new : Members)
-    → StartsWith (first_words p verdict) prose → first ≡ first_line prose
+    → StartsWith (text_beginning p verdict) prose → first ≡ first_line prose
     → new ≡ put_all (answer_members (is_accepted verdict) (string first) ++ of_verdict p verdict) old
     → IsLineOf (object new) text
     → ShowsVerdict p verdict text

@@ -9,7 +9,7 @@ use Rattle.bq_hooks.specs.Hooks.{hook_word, version_number}
 use Rattle.bq_insn.specs.Appending.{StartsWith}
 use Rattle.bq_verify.specs.Causes.{cause_number}
 use Rattle.bq_verify.specs.declared.cause.Cause.{Cause}
-use Rattle.bq_explain.specs.Beginnings.{accepted_words}
+use Rattle.bq_explain.specs.Beginnings.{accepted_beginning}
 use Rattle.bq_explain.specs.Measures.{measure_word}
 use Rattle.bq_explain.specs.Verdicts.{is_accepted, verdict_line}
 use Rattle.bq_explain.specs.declared.verdict.Verdict.{Verdict}
@@ -71,7 +71,7 @@ answer_members accepted line = (codes "accepted", boolean accepted) ∷ (codes "
 
 -- the first line on a verdict: of a refusal it is the line of plain `check`
 abbrev pub IsFirstLine : PolicySource → Verdict → List ℕ → Type 0
-IsFirstLine p (Accepted budget) line = (text : List ℕ) × StartsWith (accepted_words p budget) text × (line ≡ first_line text)
+IsFirstLine p (Accepted budget) line = (text : List ℕ) × StartsWith (accepted_beginning p budget) text × (line ≡ first_line text)
 IsFirstLine p refusal line = line ≡ first_line (verdict_line p.form.hook refusal)
 
 -- as JSON a verdict has its first line, and a member for each of its parts

@@ -2,7 +2,7 @@
 ghost use Rattle.std.specs.Prelude.{IfOk};
 ghost use Rattle.bq_policy_check.specs.Complaining.{ComplainsOfOptions};
 
-use crate::maps_words::maps_words;
+use crate::maps_fault_text::maps_fault_text;
 use bq_policy_file::{Options, OptionsFault};
 use std::alloc::{AllocError, Global};
 
@@ -28,7 +28,7 @@ pub fn options_complaint(alloc: Global, options: &Options) -> Result<Option<Stri
 /// What is wrong with the maps of options that `asm` refuses for them.
 fn maps_complaint(alloc: Global, options: &Options) -> Result<String, AllocError> {
     match (&options.hook, &options.maps) {
-        (Some(_), Some(text)) => maps_option_words(alloc, text.as_str()),
+        (Some(_), Some(text)) => maps_option_text(alloc, text.as_str()),
         _ => String::from_str(
             alloc,
             "--maps: only an image has maps; say its hook too, as --hook place",
@@ -37,7 +37,7 @@ fn maps_complaint(alloc: Global, options: &Options) -> Result<String, AllocError
 }
 
 /// What is wrong with the text of `--maps`, which names no maps.
-pub fn maps_option_words(alloc: Global, text: &str) -> Result<String, AllocError> {
-    let why = maps_words(alloc, text)?;
+pub fn maps_option_text(alloc: Global, text: &str) -> Result<String, AllocError> {
+    let why = maps_fault_text(alloc, text)?;
     format!(in alloc; "--maps: {why}")
 }

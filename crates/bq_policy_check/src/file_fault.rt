@@ -5,11 +5,11 @@ ghost use Rattle.bq_policy_check.specs.Refusing.{policy_fault_line};
 ghost use Rattle.bq_policy_check.specs.Showing.{of_fault, put_all, slot_of, stage_of};
 ghost use Rattle.bq_policy_file.specs.declared.fault.PolicyFault.TheVariants.{OutOfMemory};
 
-use crate::image_words::{image_words, spelling_words};
+use crate::image_fault_text::{image_fault_text, spelling_fault_text};
 use crate::json_parts::{number_value, put_text};
-use crate::maps_words::maps_words;
+use crate::maps_fault_text::maps_fault_text;
 use bq_asm::AssemblyCause;
-use bq_asm_faults::{assembly_words, with_nul_shown};
+use bq_asm_faults::{assembly_fault_text, with_nul_shown};
 use bq_console::{Lines, Name, Quoted};
 use bq_hooks::hook::{NO_HOOK, NO_VERSION};
 use bq_insn::fault::DecodeCause;
@@ -85,16 +85,16 @@ pub(crate) fn reason_of(
         ),
         PolicyFault::Head { line, cause } => head_reason(alloc, bytes, line, cause),
         PolicyFault::Assembly { line, cause } => assembly_reason(alloc, bytes, line, cause),
-        PolicyFault::Image(fault) => plain(alloc, image_words(fault)),
+        PolicyFault::Image(fault) => plain(alloc, image_fault_text(fault)),
         PolicyFault::Program { slot, cause } => {
-            let why = String::from_str(alloc, spelling_words(cause))?;
+            let why = String::from_str(alloc, spelling_fault_text(cause))?;
             Ok(FileFault {
                 line: None,
                 slot: Some(slot),
                 why,
             })
         }
-        PolicyFault::Disagrees(key) => Ok(whole(difference_words(alloc, bytes, key)?)),
+        PolicyFault::Disagrees(key) => Ok(whole(difference_text(alloc, bytes, key)?)),
         PolicyFault::NoHook => Ok(whole(format!(in alloc;
             "{HOOK_UNNAMED}, or give --hook place"
         )?)),
@@ -198,7 +198,7 @@ fn stage_of(fault: PolicyFault) -> &'static str
 }
 
 /// What is wrong with words that say another thing than the file of these bytes.
-fn difference_words(alloc: Global, bytes: &[u8], key: Key) -> Result<String, AllocError> {
+fn difference_text(alloc: Global, bytes: &[u8], key: Key) -> Result<String, AllocError> {
     match key {
         Key::Hook => hook_difference(alloc, bytes),
         Key::Maps => String::from_str(alloc, "--maps says other maps than the file"),
@@ -225,7 +225,7 @@ fn assembly_reason(
     cause: AssemblyCause,
 ) -> Result<FileFault, AllocError> {
     let text = std::str::from_utf8(bytes).unwrap_or("");
-    let stated = assembly_words(alloc, text, line, cause)?;
+    let stated = assembly_fault_text(alloc, text, line, cause)?;
     let shown = Lines(stated.as_str());
     let why = format!(in alloc; "{shown}")?;
     if line == 0 {
@@ -243,10 +243,10 @@ fn head_reason(
 ) -> Result<FileFault, AllocError> {
     if let HeadCause::Value(key) = cause {
         if let Some(value) = last_word(bytes, line) {
-            return Ok(at_line(line, value_words(alloc, key, value)?));
+            return Ok(at_line(line, value_text(alloc, key, value)?));
         }
     }
-    let words = head_words(cause);
+    let words = head_text(cause);
     let why = match near_key(alloc, bytes, line, cause)? {
         Some(key) => format!(in alloc; "{words}; did you mean ;@ {key}?")?,
         None => String::from_str(alloc, words)?,
@@ -290,14 +290,14 @@ fn near_key(
 }
 
 /// What is wrong with what a line says of a key.
-fn value_words(alloc: Global, key: Key, value: &str) -> Result<String, AllocError> {
+fn value_text(alloc: Global, key: Key, value: &str) -> Result<String, AllocError> {
     let shown = with_nul_shown(alloc, value)?;
     let value = shown.as_str();
     let quoted = Quoted(value);
     match key {
         Key::Hook => format!(in alloc; "{quoted} {NO_HOOK}"),
         Key::Maps => {
-            let why = maps_words(alloc, value)?;
+            let why = maps_fault_text(alloc, value)?;
             format!(in alloc; "maps: {why}")
         }
         Key::Format => format!(in alloc; "{quoted} {NO_VERSION}"),
@@ -316,7 +316,7 @@ fn line_at(bytes: &[u8], number: usize) -> Option<&str> {
 }
 
 /// What is wrong with a line that begins with `;@`, for this cause, and what such a line may say.
-fn head_words(cause: HeadCause) -> &'static str {
+fn head_text(cause: HeadCause) -> &'static str {
     match cause {
         HeadCause::Unknown => {
             "a line that begins with ;@ says one thing: ;@ hook place, ;@ maps 8:1,16:4 or ;@ format 2"

@@ -5,7 +5,7 @@ ghost use Rattle.bq_policy_check.specs.Given.{GivesHead, option_bytes};
 ghost use Rattle.bq_policy_file.specs.Heads.{NamesMapShapes};
 ghost use Rattle.bq_hooks.specs.Hooks.{hook_of, version_of};
 
-use crate::asm_options::maps_option_words;
+use crate::asm_options::maps_option_text;
 use crate::words::PolicyWords;
 use bq_bpf::MapShape;
 use bq_console::{WordsFault, value_words, words_fault};
@@ -69,6 +69,6 @@ fn maps_in(alloc: Global, text: &Option<String>) -> Result<Option<Vec<MapShape>>
     };
     match shapes_of(alloc, text.as_bytes())? {
         Some(shapes) => Ok(Some(shapes)),
-        None => Err(words_fault(maps_option_words(alloc, text.as_str()))),
+        None => Err(words_fault(maps_option_text(alloc, text.as_str()))),
     }
 }

@@ -8,7 +8,7 @@ use bq_bpf::MapShape;
 use bq_console::NO_TEXT;
 use bq_explain::{
     ExplainedRefusal, Finding, ProgramPoint, RegisterMaker, Summary, Verdict, advice_text,
-    need_words,
+    finding_text,
 };
 use bq_needs::known_text;
 use bq_policy_file::{PolicySource, instruction_text};
@@ -114,7 +114,7 @@ pub(crate) fn fields_of_refusal(
     let mut fields = Map::new(alloc);
     put_text(&mut fields, alloc, "cause", cause_word(refusal.cause))?;
     put_instruction(&mut fields, alloc, &refusal.place)?;
-    let need = need_words(alloc, policy, refusal)?;
+    let need = finding_text(alloc, policy, refusal)?;
     put_text(&mut fields, alloc, "need", need.as_str())?;
     let shapes = policy.form.shapes.as_slice();
     let registers = registers_value(alloc, shapes, refusal.finding)?;

@@ -3,7 +3,7 @@ use Rattle.std.specs.Prelude.{codes, string_bytes}
 use Rattle.std.specs.Fmt.{decimal}
 use Rattle.std.proofs.lemmas.Result.{IfOk-weaker}
 use Rattle.bq_insn.specs.Appending.{StartsWith}
-use Rattle.bq_explain.specs.Beginnings.{accepted_words}
+use Rattle.bq_explain.specs.Beginnings.{accepted_beginning}
 use Rattle.bq_explain.proofs.BeginningLemmas.{goes_on}
 use Rattle.bq_explain.proofs.summary.summary_text.Goals as goal
 
@@ -15,6 +15,6 @@ returns c =
     ++ (codes ", counters "
     ++ (decimal c.args.summary.now.counters ++ (codes ", slots " ++ (decimal c.args.summary.now.slots ++ codes "\n"))))) in
     IfOk-weaker c.format.result (λ text. string_bytes text ≡ string_bytes c.in_ok-words.words ++ behind)
-    (λ text. StartsWith (accepted_words c.args.policy.now c.args.budget) (string_bytes text))
+    (λ text. StartsWith (accepted_beginning c.args.policy.now c.args.budget) (string_bytes text))
     (λ text is. goes_on (string_bytes text) (string_bytes c.in_ok-words.words) _ behind is c.in_ok-words.ensures)
     c.format.ensures.ok

@@ -30,8 +30,8 @@ pub fn advice_text(
         Advice::Compare(register) => compare_text(alloc, register),
         Advice::CopyWhole { to, from } => copy_text(alloc, to, from),
         Advice::ReadContext(reach) => String::from_str(alloc, reach_text(reach)),
-        Advice::Give(argument) => String::from_str(alloc, argument_words(argument)),
-        Advice::Answer(kind) => String::from_str(alloc, answer_words(kind)),
+        Advice::Give(argument) => String::from_str(alloc, argument_text(argument)),
+        Advice::Answer(kind) => String::from_str(alloc, answer_text(kind)),
         Advice::JumpForward => String::from_str(
             alloc,
             "jump to a later instruction, and write a loop out as often as it may run",
@@ -290,7 +290,7 @@ fn value_text(alloc: Global, bytes: u16) -> Result<String, AllocError> {
 }
 
 /// Says how to make an argument what a helper wants.
-fn argument_words(argument: Argument) -> &'static str {
+fn argument_text(argument: Argument) -> &'static str {
     match argument {
         Argument::Map => {
             "ldmap r1, 0 just before the call; each call leaves r1 to r5 unset, so set what it takes before each"
@@ -309,7 +309,7 @@ fn argument_words(argument: Argument) -> &'static str {
 }
 
 /// Says what helps if the answer is a pointer of that kind.
-fn answer_words(kind: ValueKind) -> &'static str {
+fn answer_text(kind: ValueKind) -> &'static str {
     match kind {
         ValueKind::Map(_) => {
             "set r0 to a number on each path to the exit; the reference of a map is no answer"

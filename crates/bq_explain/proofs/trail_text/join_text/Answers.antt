@@ -3,7 +3,7 @@ use Rattle.std.specs.Prelude.{codes, string_bytes}
 use Rattle.std.specs.Fmt.{decimal}
 use Rattle.std.proofs.lemmas.Result.{IfOk-weaker}
 use Rattle.bq_explain.specs.TrailTexts.{join_text}
-use Rattle.bq_explain.proofs.trail_words.join_text.Goals as goal
+use Rattle.bq_explain.proofs.trail_text.join_text.Goals as goal
 
 pub returns : goal.returns
 returns c =

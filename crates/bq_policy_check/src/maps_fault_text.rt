@@ -9,19 +9,19 @@ const MAP: &str = "a map is the size of a value, a colon and the number of entri
 
 /// What is wrong with a text that names no maps: its first part that names no map, and what a part may say; or that there are
 /// too many parts.
-pub(crate) fn maps_words(alloc: Global, text: &str) -> Result<String, AllocError> {
+pub(crate) fn maps_fault_text(alloc: Global, text: &str) -> Result<String, AllocError> {
     let mut number: usize = 0;
     for part in text.split(',') {
         number = number.saturating_add(1);
         if !is_maps(alloc, part)? {
-            return part_words(alloc, number, part);
+            return part_text(alloc, number, part);
         }
     }
-    many_words(alloc, number)
+    many_text(alloc, number)
 }
 
 /// What is wrong with this many maps, each of which is one.
-fn many_words(alloc: Global, number: usize) -> Result<String, AllocError> {
+fn many_text(alloc: Global, number: usize) -> Result<String, AllocError> {
     format!(in alloc; "{number} maps; a program has {MAPS} at most")
 }
 
@@ -31,52 +31,52 @@ fn is_maps(alloc: Global, text: &str) -> Result<bool, AllocError> {
 }
 
 /// What is wrong with the part of that number, which names no map.
-fn part_words(alloc: Global, number: usize, part: &str) -> Result<String, AllocError> {
+fn part_text(alloc: Global, number: usize, part: &str) -> Result<String, AllocError> {
     if part.is_empty() {
         return format!(in alloc; "part {number} is empty: {MAP}");
     }
-    let why = map_words(alloc, part)?;
-    wrong_words(alloc, number, part, why.as_str())
+    let why = map_text(alloc, part)?;
+    wrong_text(alloc, number, part, why.as_str())
 }
 
 /// What is wrong with the part of that number, and why.
-fn wrong_words(alloc: Global, number: usize, part: &str, why: &str) -> Result<String, AllocError> {
+fn wrong_text(alloc: Global, number: usize, part: &str, why: &str) -> Result<String, AllocError> {
     let part = Quoted(part);
     format!(in alloc; "part {number} \"{part}\": {why}")
 }
 
 /// What is wrong with a text that names no map.
-fn map_words(alloc: Global, part: &str) -> Result<String, AllocError> {
+fn map_text(alloc: Global, part: &str) -> Result<String, AllocError> {
     match part.split_once(':') {
-        Some((size, entries)) if !entries.contains(":") => pair_words(alloc, size, entries),
+        Some((size, entries)) if !entries.contains(":") => pair_text(alloc, size, entries),
         _ => String::from_str(alloc, MAP),
     }
 }
 
 /// Says what is wrong with a size and a number of entries that no map can have.
-fn pair_words(alloc: Global, size: &str, entries: &str) -> Result<String, AllocError> {
+fn pair_text(alloc: Global, size: &str, entries: &str) -> Result<String, AllocError> {
     let with_an_entry = format!(in alloc; "{size}:1")?;
     if is_maps(alloc, with_an_entry.as_str())? {
-        entries_words(alloc, entries)
+        entries_text(alloc, entries)
     } else {
-        size_words(alloc, size)
+        size_text(alloc, size)
     }
 }
 
 /// What is wrong with a text that is the size of no value.
-fn size_words(alloc: Global, size: &str) -> Result<String, AllocError> {
-    let got = got(alloc, size)?;
+fn size_text(alloc: Global, size: &str) -> Result<String, AllocError> {
+    let got = got_text(alloc, size)?;
     format!(in alloc; "the size of a value is {SIZE_WORDS} (got {got})")
 }
 
 /// What is wrong with a text that is no number of entries.
-fn entries_words(alloc: Global, entries: &str) -> Result<String, AllocError> {
-    let got = got(alloc, entries)?;
+fn entries_text(alloc: Global, entries: &str) -> Result<String, AllocError> {
+    let got = got_text(alloc, entries)?;
     format!(in alloc; "the number of entries is {ENTRIES_WORDS} (got {got})")
 }
 
 /// Says a word as it was given, and whether it is no number.
-fn got(alloc: Global, word: &str) -> Result<String, AllocError> {
+fn got_text(alloc: Global, word: &str) -> Result<String, AllocError> {
     if word.is_empty() {
         return String::from_str(alloc, "nothing");
     }

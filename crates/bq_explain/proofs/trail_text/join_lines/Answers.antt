@@ -2,7 +2,7 @@ use Rattle.std.proofs.Common.{◌∙◌, ◌++◌, ap}
 use Rattle.std.specs.Prelude.{string_bytes}
 use Rattle.bq_explain.specs.TrailTexts.{join_text}
 use Rattle.bq_explain.proofs.LineLemmas.{one_line_more}
-use Rattle.bq_explain.proofs.trail_words.join_lines.Goals as goal
+use Rattle.bq_explain.proofs.trail_text.join_lines.Goals as goal
 
 pub loop-join-preserved : goal.loop-join-preserved
 loop-join-preserved c =

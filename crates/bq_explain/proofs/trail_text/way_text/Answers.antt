@@ -2,7 +2,7 @@ use Rattle.std.proofs.Common.{◌≡◌, ◌∙◌, ◌++◌, refl}
 use Rattle.std.specs.Prelude.{codes, string_bytes}
 use Rattle.std.proofs.lemmas.Result.{IfOk-weaker}
 use Rattle.bq_explain.specs.TrailTexts.{way_text}
-use Rattle.bq_explain.proofs.trail_words.way_text.Goals as goal
+use Rattle.bq_explain.proofs.trail_text.way_text.Goals as goal
 
 pub returns : goal.returns
 returns c =

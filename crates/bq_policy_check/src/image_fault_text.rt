@@ -5,7 +5,7 @@ use bq_insn::fault::DecodeCause;
 use bq_load::LoadFault;
 
 /// What is wrong with the bytes of an image.
-pub(crate) fn image_words(fault: LoadFault) -> &'static str {
+pub(crate) fn image_fault_text(fault: LoadFault) -> &'static str {
     match fault {
         LoadFault::Magic => "the bytes do not begin with the letters BQPI: this is no image",
         LoadFault::Version => with_versions!("the version, byte 4, is neither ", " nor ", ""),
@@ -18,14 +18,14 @@ pub(crate) fn image_words(fault: LoadFault) -> &'static str {
         ),
         LoadFault::Cut => "the bytes end before the image does",
         LoadFault::Rest => "bytes stand after the program",
-        LoadFault::Decode { cause, .. } => spelling_words(cause),
+        LoadFault::Decode { cause, .. } => spelling_fault_text(cause),
         LoadFault::Refused { .. } => "the program is not shown to be safe",
         LoadFault::OutOfMemory => "out of memory",
     }
 }
 
 /// What is wrong with the bytes of an instruction.
-pub(crate) fn spelling_words(cause: DecodeCause) -> &'static str {
+pub(crate) fn spelling_fault_text(cause: DecodeCause) -> &'static str {
     match cause {
         DecodeCause::Length => with_slots!("a program has ", " slots of 8 bytes"),
         DecodeCause::Opcode =>

@@ -1,7 +1,7 @@
 use Rattle.std.proofs.Common.{◌≡◌, ◌++◌, drop}
 use Rattle.std.specs.Prelude.{flat_map, string_bytes}
 use Rattle.bq_explain.specs.TrailTexts.{join_text}
-use Rattle.bq_explain.proofs.trail_words.join_lines.Given as goal
+use Rattle.bq_explain.proofs.trail_text.join_lines.Given as goal
 
 -- the lines that are left complete the text
 abbrev pub invariant-loop-join : goal.invariant-loop-join
