@@ -24,7 +24,7 @@ use Rattle.bq_drawing.specs.declared.lanes.TaskInterval.{TaskInterval}
 use Rattle.bq_drawing.specs.declared.legend.Key.{Key}
 use Rattle.bq_drawing.specs.declared.links.RowLink.{RowLink}
 use Rattle.bq_drawing.specs.declared.links.LinkKind.{LinkKind}
-use Rattle.bq_drawing.specs.declared.look.Look.{Look}
+use Rattle.bq_drawing.specs.declared.picture_options.PictureOptions.{PictureOptions}
 use Rattle.bq_drawing.specs.declared.svg.Svg.{Svg}
 use Rattle.bq_words.specs.declared.discipline_name.DisciplineName.{DisciplineName}
 use Rattle.bq_drawing.specs.Axes.{axis_text}
@@ -236,12 +236,12 @@ drawing_whole w s title discipline held written height t0 t1 t2 t3 t4 t5 drawn_s
     }
 
 -- a picture: its head, what is drawn, and its end
-pub picture_added : (w : Window) (look : Look) (s : PictureSetting) (discipline : Option DisciplineName) (held : Held)
+pub picture_added : (w : Window) (options : PictureOptions) (s : PictureSetting) (discipline : Option DisciplineName) (held : Held)
     (height : ℕ) (head drawn old t1 t2 t3 : List ℕ)
-    → IsDrawing w s (title_of look) discipline held height drawn → IsHead look drawn height head → t1 ≡ old ++ head
+    → IsDrawing w s (title_of options) discipline held height drawn → IsHead options drawn height head → t1 ≡ old ++ head
     → t2 ≡ t1 ++ drawn → t3 ≡ t2 ++ codes "</svg>\n"
-    → GrowsByPart (IsPicture w look s discipline held) old t3
-picture_added w look s discipline held height head drawn old t1 t2 t3 is is_head e1 e2 e3 = (
+    → GrowsByPart (IsPicture w options s discipline held) old t3
+picture_added w options s discipline held height head drawn old t1 t2 t3 is is_head e1 e2 e3 = (
   head ++ (drawn ++ codes "</svg>\n"),
   record { head = head; drawn = drawn; height = height; is_drawing = is; is_head = is_head; whole = refl },
   all_added old t1 t2 t3 head drawn (codes "</svg>\n") e1 e2 e3,
@@ -252,12 +252,12 @@ pub picture_at_end : (held between last : Svg) (s : Figures) (names : NamedTasks
     → between ≡ record held { drawing = between.drawing } → last ≡ record between { drawing = last.drawing }
     → HoldsRunners held.window s 64 held.drawing between.drawing
     → HoldsWaiting between.window s 1024 between.drawing last.drawing → IsDrawnOver last.window s e
-    → GrowsByPart (IsPicture last.window last.look (drawn_in e last.admitted names) last.discipline last.drawing) old new
-    → GrowsByPart (IsPictureOf held.window held.look held.discipline s names held.admitted held.drawing) old new
+    → GrowsByPart (IsPicture last.window last.options (drawn_in e last.admitted names) last.discipline last.drawing) old new
+    → GrowsByPart (IsPictureOf held.window held.options held.discipline s names held.admitted held.drawing) old new
 picture_at_end held between last s names e old new first second runs waits over added =
     let whole : last ≡ record held { drawing = last.drawing } = second ∙ ap (λ (v : Svg). record v { drawing = last.drawing }) first in
-    let own : GrowsByPart (IsPicture held.window held.look (drawn_in e held.admitted names) held.discipline last.drawing) old new
-    = subst (λ (v : Svg). GrowsByPart (IsPicture v.window v.look (drawn_in e v.admitted names) v.discipline last.drawing) old new) whole added in (
+    let own : GrowsByPart (IsPicture held.window held.options (drawn_in e held.admitted names) held.discipline last.drawing) old new
+    = subst (λ (v : Svg). GrowsByPart (IsPicture v.window v.options (drawn_in e v.admitted names) v.discipline last.drawing) old new) whole added in (
       own.0,
       record {
         running = between.drawing;

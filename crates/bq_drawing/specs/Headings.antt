@@ -4,14 +4,14 @@ use Rattle.std.specs.Fmt.{decimal}
 use Rattle.std.specs.Option.{option_map}
 use Rattle.bq_words.specs.declared.discipline_name.DisciplineName.{DisciplineName}
 use Rattle.bq_words.specs.declared.discipline_name.DisciplineName.TheVariants.{Cfs, Eevdf}
-use Rattle.bq_drawing.specs.declared.look.Look.{Look}
+use Rattle.bq_drawing.specs.declared.picture_options.PictureOptions.{PictureOptions}
 use Rattle.bq_drawing.specs.Places.{left_edge}
 use Rattle.bq_drawing.specs.Shapes.{PictureSetting}
 use Rattle.bq_drawing.specs.Titles.{amount_text, escaped, unit_name}
 
 -- the title of a picture: its own, or a default if it has none
-abbrev pub title_of : Look → List ℕ
-title_of look = unwrap_or (option_map (λ t. string_bytes t) look.title) (codes "Schedule")
+abbrev pub title_of : PictureOptions → List ℕ
+title_of options = unwrap_or (option_map (λ t. string_bytes t) options.title) (codes "Schedule")
 
 -- the name of a discipline
 abbrev pub acronym : DisciplineName → List ℕ

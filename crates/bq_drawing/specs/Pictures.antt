@@ -7,7 +7,7 @@ use Rattle.bq_report.specs.declared.window.Window.{Window}
 use Rattle.bq_report.specs.Extents.{SpansReadings}
 use Rattle.bq_report.specs.Names.{NamedTasks}
 use Rattle.bq_words.specs.declared.discipline_name.DisciplineName.{DisciplineName}
-use Rattle.bq_drawing.specs.declared.look.Look.{Look}
+use Rattle.bq_drawing.specs.declared.picture_options.PictureOptions.{PictureOptions}
 use Rattle.bq_drawing.specs.Axes.{axis_text}
 use Rattle.bq_drawing.specs.Frames.{hash_of, picture_name_text, root_text, root_title}
 use Rattle.bq_drawing.specs.Headings.{heading_text, title_of}
@@ -33,17 +33,17 @@ pub record IsDrawing (w : Window) (s : PictureSetting) (title : List ℕ) (disci
 
 -- the head of a picture in which this is drawn: its root, with its name and its size, its title, and the styles of a theme. Nothing is
 -- said here of the styles
-abbrev pub IsHead : Look → List ℕ → ℕ → List ℕ → Type 0
-IsHead look drawn height text =
-    (styles : List ℕ) × (text ≡ root_text (picture_name_text (hash_of look.theme drawn)) height ++ (root_title (title_of look) ++ styles))
+abbrev pub IsHead : PictureOptions → List ℕ → ℕ → List ℕ → Type 0
+IsHead options drawn height text =
+    (styles : List ℕ) × (text ≡ root_text (picture_name_text (hash_of options.theme drawn)) height ++ (root_title (title_of options) ++ styles))
 
 -- a picture: its head, all that is drawn, and the end of its root
-pub record IsPicture (w : Window) (look : Look) (s : PictureSetting) (discipline : Option DisciplineName) (held : Held) (text : List ℕ) : Type 0 where
+pub record IsPicture (w : Window) (options : PictureOptions) (s : PictureSetting) (discipline : Option DisciplineName) (held : Held) (text : List ℕ) : Type 0 where
   pub head : List ℕ
   pub drawn : List ℕ
   pub height : ℕ
-  pub is_drawing : IsDrawing w s (title_of look) discipline held height drawn
-  pub is_head : IsHead look drawn height head
+  pub is_drawing : IsDrawing w s (title_of options) discipline held height drawn
+  pub is_head : IsHead options drawn height head
   pub whole : text ≡ head ++ (drawn ++ codes "</svg>\n")
 
 -- no time passes in the window
@@ -55,7 +55,7 @@ abbrev pub IsDrawnOver : Window → Figures → Extent → Type 0
 IsDrawnOver w s e = (SpansReadings w s e × (e.from < e.to)) ⊎ (PassesNoTime w s × (e ≡ record { from = 0; to = 1 }))
 
 -- the picture at the end of a schedule: of all that is held, and of the runs and the waits that still go on
-pub record IsPictureOf (w : Window) (look : Look) (discipline : Option DisciplineName) (s : Figures) (names : NamedTasks) (tasks : List ℕ) (old : Held)
+pub record IsPictureOf (w : Window) (options : PictureOptions) (discipline : Option DisciplineName) (s : Figures) (names : NamedTasks) (tasks : List ℕ) (old : Held)
     (text : List ℕ) : Type 0 where
   pub running : Held
   pub held : Held
@@ -63,4 +63,4 @@ pub record IsPictureOf (w : Window) (look : Look) (discipline : Option Disciplin
   pub holds_runs : HoldsRunners w s PROCESSORS old running
   pub holds_waits : HoldsWaiting w s TASKS running held
   pub drawn_over : IsDrawnOver w s extent
-  pub whole : IsPicture w look (drawn_in extent tasks names) discipline held text
+  pub whole : IsPicture w options (drawn_in extent tasks names) discipline held text

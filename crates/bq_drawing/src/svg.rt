@@ -15,8 +15,8 @@ use crate::escaped::write_escaped;
 use crate::heading::Heading;
 use crate::lanes::TaskInterval;
 use crate::links::{LinkKind, RowLink, Spot};
-use crate::look::Look;
 use crate::picture_name::PictureName;
+use crate::picture_options::PictureOptions;
 use crate::runs::{ended_run, run_on};
 use crate::scale::PAGE;
 use crate::styles::{write_hatches, write_styles};
@@ -35,7 +35,7 @@ use std::collections::BTreeMap;
 pub struct Svg {
     alloc: Global,
     window: Window,
-    look: Look,
+    options: PictureOptions,
     discipline: Option<DisciplineName>,
     admitted: AdmittedTasks,
     drawing: Drawing,
@@ -45,16 +45,16 @@ pub struct Svg {
 
 impl Svg {
     /// Returns a picture of what is in the window.
-    pub fn new(alloc: Global, window: Window, look: Look) -> Svg
+    pub fn new(alloc: Global, window: Window, options: PictureOptions) -> Svg
         ensures window { result.window ≡ window }
-        ensures look { result.look ≡ look }
+        ensures options { result.options ≡ options }
         ensures discipline { result.discipline ≡ None }
         ensures none { (result.drawing ≡ nothing_of 0) × (result.admitted ≡ []) × (result.stops.entries ≡ []) }
     {
         Svg {
             alloc,
             window,
-            look,
+            options,
             discipline: None,
             admitted: AdmittedTasks::new(alloc),
             drawing: Drawing::new(alloc),
@@ -225,17 +225,17 @@ impl Svg {
 
     /// Adds the picture of what is held.
     fn write(&self, extent: Extent, names: &Names, text: &mut String) -> Result<(), AllocError>
-        ensures { OnOk result (GrowsByPart (IsPicture self.now.window self.now.look (drawn_in extent self.now.admitted names.now) self.now.discipline self.now.drawing)
+        ensures { OnOk result (GrowsByPart (IsPicture self.now.window self.now.options (drawn_in extent self.now.admitted names.now) self.now.discipline self.now.drawing)
             (string_bytes text.old) (string_bytes text.new)) }
     {
         let heading = Heading {
-            title: self.look.title(),
+            title: self.options.title(),
             discipline: self.discipline,
         };
         let drawn = self
             .drawing
             .write(&self.window, extent, &heading, &self.admitted, names)?;
-        let head = head_of(self.alloc, &self.look, &drawn)?;
+        let head = head_of(self.alloc, &self.options, &drawn)?;
         text.push_str(head.as_str())?;
         text.push_str(drawn.text.as_str())?;
         write_end(text)
@@ -260,14 +260,14 @@ fn drawn_over(schedule: &Schedule, window: &Window) -> Extent
 }
 
 /// Returns the text before all that is drawn: the root with its name, its title, its styles and its hatches.
-fn head_of(alloc: Global, look: &Look, drawn: &Written) -> Result<String, AllocError>
-    ensures { IfOk result (λ head. IsHead look.now (string_bytes drawn.now.text) drawn.now.height (string_bytes head)) }
+fn head_of(alloc: Global, options: &PictureOptions, drawn: &Written) -> Result<String, AllocError>
+    ensures { IfOk result (λ head. IsHead options.now (string_bytes drawn.now.text) drawn.now.height (string_bytes head)) }
 {
-    let name = PictureName::of(look.theme, drawn.text.as_str());
+    let name = PictureName::of(options.theme, drawn.text.as_str());
     let mut text = String::new(alloc);
     write_root(name, drawn.height, &mut text)?;
-    write_root_title(look.title(), &mut text)?;
-    let styles = styles_of(alloc, name, look.theme)?;
+    write_root_title(options.title(), &mut text)?;
+    let styles = styles_of(alloc, name, options.theme)?;
     text.push_str(styles.as_str())?;
     Ok(text)
 }
@@ -430,7 +430,7 @@ impl ScheduleForm for Svg {
         names: &Names,
         text: &mut String,
     ) -> Result<(), AllocError>
-        ensures picture { OnOk result (GrowsByPart (IsPictureOf self.old.window self.old.look self.old.discipline schedule.now names.now self.old.admitted self.old.drawing)
+        ensures picture { OnOk result (GrowsByPart (IsPictureOf self.old.window self.old.options self.old.discipline schedule.now names.now self.old.admitted self.old.drawing)
             (string_bytes text.old) (string_bytes text.new)) }
     {
         self.hold_runners(schedule)?;

@@ -20,7 +20,7 @@ use Rattle.bq_report.specs.Rows.{head_row, optional_slice_row}
 use Rattle.bq_report.specs.Timehist.{AreLastLines, IsShownMigration, IsShownStop, IsShownWake, change_text, head_lines}
 use Rattle.bq_report.specs.Windows.{IsShownPart}
 use Rattle.bq_words.specs.declared.discipline_name.DisciplineName.{DisciplineName}
-use Rattle.bq_drawing.specs.declared.look.Look.{Look}
+use Rattle.bq_drawing.specs.declared.picture_options.PictureOptions.{PictureOptions}
 use Rattle.bq_drawing.specs.Histories.{empty_past}
 use Rattle.bq_drawing.specs.Holdings.{HoldsChange, nothing_of}
 use Rattle.bq_drawing.specs.Perfetto.{IsPerfettoHead, IsPerfettoOf, IsPerfettoTail}
@@ -28,14 +28,14 @@ use Rattle.bq_drawing.specs.Pictures.{IsPictureOf}
 use Rattle.bq_timeline.specs.declared.shown.Shown.{Shown}
 use Rattle.bq_timeline.specs.declared.shown.Shown.TheVariants as form
 
--- A form to which nothing has happened: a map of this width, a picture of this look.
-abbrev pub IsEmptyForm : ℕ → Look → Shown → Type 0
-IsEmptyForm width look (form.Report r) = ((task : ℕ) → latencies_of r.latencies task ≡ []) × (r.missed ≡ 0)
-IsEmptyForm width look (form.Map m) = (m.width ≡ width) × (m.admitted ≡ []) × (m.rows.items ≡ [])
-IsEmptyForm width look (form.Json j) = ((task : ℕ) → latencies_of j.latencies task ≡ []) × (j.missed ≡ 0)
-IsEmptyForm width look (form.Svg p) =
-    (p.look ≡ look) × (p.discipline ≡ None) × (p.admitted ≡ []) × (p.drawing ≡ nothing_of 0) × (p.stops.entries ≡ [])
-IsEmptyForm width look other = Unit {0}
+-- A form to which nothing has happened: a map of this width, a picture with these options.
+abbrev pub IsEmptyForm : ℕ → PictureOptions → Shown → Type 0
+IsEmptyForm width picture_options (form.Report r) = ((task : ℕ) → latencies_of r.latencies task ≡ []) × (r.missed ≡ 0)
+IsEmptyForm width picture_options (form.Map m) = (m.width ≡ width) × (m.admitted ≡ []) × (m.rows.items ≡ [])
+IsEmptyForm width picture_options (form.Json j) = ((task : ℕ) → latencies_of j.latencies task ≡ []) × (j.missed ≡ 0)
+IsEmptyForm width picture_options (form.Svg p) =
+    (p.options ≡ picture_options) × (p.discipline ≡ None) × (p.admitted ≡ []) × (p.drawing ≡ nothing_of 0) × (p.stops.entries ≡ [])
+IsEmptyForm width picture_options other = Unit {0}
 
 -- A form begins under a discipline, with a schedule to which nothing has happened: it and its text, before and after. A picture's title names
 -- the discipline.
@@ -104,6 +104,6 @@ FormEnds s names (form.Timehist old) before after = GrowsByPart (AreLastLines ol
 FormEnds s names (form.Csv old) before after = after ≡ before
 FormEnds s names (form.Json old) before after = GrowsByPart (IsJsonReport old.window names s old.latencies old.missed) before after
 FormEnds s names (form.Svg old) before after =
-    GrowsByPart (IsPictureOf old.window old.look old.discipline s names old.admitted old.drawing) before after
+    GrowsByPart (IsPictureOf old.window old.options old.discipline s names old.admitted old.drawing) before after
 FormEnds s names (form.Perfetto old) before after = GrowsByPart (IsPerfettoTail old.window names s old.history) before after
 FormEnds s names (form.Why old) before after = Unit {0}

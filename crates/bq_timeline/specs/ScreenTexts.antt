@@ -38,7 +38,7 @@ HasTable other bounds = bounds ≡ None
 pub record FormAppears (discipline : DisciplineName) (s : Figures) (asked : Settings) (old new : ScreenState) (before after : List ℕ) : Type 0 where
   pub fresh : Shown
   pub is_asked : IsAskedFor asked old.names fresh
-  pub is_empty : IsEmptyForm asked.width asked.look fresh
+  pub is_empty : IsEmptyForm asked.width asked.picture_options fresh
   pub form : Shown
   pub opens : FormOpens discipline s fresh form before after
   pub shown : new.shown ≡ Some form

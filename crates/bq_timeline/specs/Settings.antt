@@ -138,9 +138,9 @@ has_width Map = true
 has_width other = false
 
 -- the form has a theme and a title
-abbrev pub has_look : FormName → Bool
-has_look Svg = true
-has_look other = false
+abbrev pub is_picture : FormName → Bool
+is_picture Svg = true
+is_picture other = false
 
 -- an option is missing, or the form heeds it
 abbrev pub is_heeded : Bool → Option (String Global) → Bool
@@ -152,8 +152,8 @@ pub record HeedsAll (form : FormName) (w : Words) : Type 0 where
   pub from : is_heeded (has_stretch form) w.from ≡ true
   pub to : is_heeded (has_stretch form) w.to ≡ true
   pub width : is_heeded (has_width form) w.width ≡ true
-  pub theme : is_heeded (has_look form) w.theme ≡ true
-  pub title : is_heeded (has_look form) w.title ≡ true
+  pub theme : is_heeded (is_picture form) w.theme ≡ true
+  pub title : is_heeded (is_picture form) w.title ≡ true
 
 -- the words ask for these settings, and for no option that their form does not heed
 pub record AsksForSettings (w : Words) (s : Settings) : Type 0 where
@@ -165,8 +165,8 @@ pub record AsksForSettings (w : Words) (s : Settings) : Type 0 where
   pub tasks : tasks_asked w ≡ Some s.window.tasks.items
   pub names : map string_bytes s.names.items ≡ names_asked w
   pub width : width_asked w ≡ Some s.width
-  pub theme : theme_asked w ≡ Some s.look.theme
-  pub title : optional_word_text s.look.title ≡ optional_word_text w.title
+  pub theme : theme_asked w ≡ Some s.picture_options.theme
+  pub title : optional_word_text s.picture_options.title ≡ optional_word_text w.title
   pub heeded : HeedsAll s.form w
 
 -- both moments are named, and the last is before the first
@@ -178,8 +178,8 @@ abbrev pub IsUnheeded : FormName → Words → SettingsFault → Type 0
 IsUnheeded form w fault.FromUnused = is_heeded (has_stretch form) w.from ≡ false
 IsUnheeded form w fault.ToUnused = is_heeded (has_stretch form) w.to ≡ false
 IsUnheeded form w fault.WidthUnused = is_heeded (has_width form) w.width ≡ false
-IsUnheeded form w fault.ThemeUnused = is_heeded (has_look form) w.theme ≡ false
-IsUnheeded form w fault.TitleUnused = is_heeded (has_look form) w.title ≡ false
+IsUnheeded form w fault.ThemeUnused = is_heeded (is_picture form) w.theme ≡ false
+IsUnheeded form w fault.TitleUnused = is_heeded (is_picture form) w.title ≡ false
 IsUnheeded form w other = ⊥
 
 -- the fault names an option that the form that is asked for does not heed

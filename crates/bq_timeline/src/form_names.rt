@@ -1,6 +1,6 @@
 //! The forms by name.
 ghost use Rattle.std.specs.Prelude.{◌≡◌};
-ghost use Rattle.bq_timeline.specs.Settings.{form_named, has_look, has_stretch, has_width};
+ghost use Rattle.bq_timeline.specs.Settings.{form_named, has_stretch, has_width, is_picture};
 
 /// A form in which a schedule is shown.
 #[derive(Clone, Copy)]
@@ -63,9 +63,9 @@ impl FormName {
         matches!(self, FormName::Map)
     }
 
-    /// Whether the form has a theme and a title.
-    pub fn has_look(self) -> bool
-        ensures { result ≡ has_look self }
+    /// Tells whether the form is a picture: it has a theme and a title.
+    pub fn is_picture(self) -> bool
+        ensures { result ≡ is_picture self }
     {
         matches!(self, FormName::Svg)
     }

@@ -148,7 +148,7 @@ impl Screen {
     /// The form that is asked for. Its window also has the tasks that are asked for by name.
     fn form_of(&mut self, alloc: Global, settings: Settings) -> Result<Shown, AllocError>
         ensures form { IfOk result (IsAskedFor settings self.old.names) }
-        ensures empty { IfOk result (IsEmptyForm settings.width settings.look) }
+        ensures empty { IfOk result (IsEmptyForm settings.width settings.picture_options) }
         ensures tasks { OnOk result (self.new.tasks.items ≡ settings.window.tasks.items ++ tasks_for self.old.names settings.names.items) }
         ensures unchanged { self.new ≡ record self.old { tasks = self.new.tasks } }
     {
@@ -157,11 +157,11 @@ impl Screen {
             mut window,
             names,
             width,
-            look,
+            picture_options,
         } = settings;
         add_called(alloc, &mut window.tasks, names.as_slice(), &self.names)?;
         self.tasks = Vec::from_slice(alloc, window.tasks.as_slice())?;
-        Ok(Shown::of(alloc, form, window, width, look))
+        Ok(Shown::of(alloc, form, window, width, picture_options))
     }
 
     /// Learns the name of a task from a comment, if it names one.

@@ -11,7 +11,7 @@ use crate::numbers::{GREATEST_WIDTH, LEAST_WIDTH};
 use crate::times::is_too_great;
 use crate::{numbers, with_forms, with_stretches};
 use bq_disc::limits::LAST_PROCESSOR;
-use bq_drawing::{Look, Theme, with_themes};
+use bq_drawing::{PictureOptions, Theme, with_themes};
 use bq_report::Window;
 use bq_words::processor_sets::processors;
 use bq_words::{duration, with_tasks, with_units};
@@ -53,7 +53,7 @@ pub struct Settings {
     /// The columns of a map, from 20 to 10,000.
     pub width: usize,
     /// The theme and the title of a picture.
-    pub look: Look,
+    pub picture_options: PictureOptions,
 }
 
 /// What a word for the form must be.
@@ -184,7 +184,7 @@ impl Settings {
             window,
             names,
             width,
-            look: Look { theme, title },
+            picture_options: PictureOptions { theme, title },
         })
     }
 }
@@ -203,10 +203,10 @@ fn heed_all(form: FormName, words: &Words) -> Result<(), SettingsFault>
     if !is_heeded(form.has_width(), &words.width) {
         return Err(SettingsFault::WidthUnused);
     }
-    if !is_heeded(form.has_look(), &words.theme) {
+    if !is_heeded(form.is_picture(), &words.theme) {
         return Err(SettingsFault::ThemeUnused);
     }
-    if !is_heeded(form.has_look(), &words.title) {
+    if !is_heeded(form.is_picture(), &words.title) {
         return Err(SettingsFault::TitleUnused);
     }
     Ok(())

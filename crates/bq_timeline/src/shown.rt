@@ -4,7 +4,7 @@ ghost use Rattle.bq_timeline.specs.FormTexts.{FormAdmits, FormAnswers, FormEnds,
 ghost use Rattle.bq_timeline.specs.Shown.{ShowsForm, StaysShown};
 
 use crate::form_names::FormName;
-use bq_drawing::{Look, Perfetto, Svg};
+use bq_drawing::{Perfetto, PictureOptions, Svg};
 use bq_parts::Event;
 use bq_report::{Csv, Json, Map, Names, Report, ScheduleForm, Timehist, Window};
 use bq_schedule::Schedule;
@@ -29,9 +29,15 @@ pub enum Shown {
 
 impl Shown {
     /// The form of this name, for what the window shows.
-    pub fn of(alloc: Global, form: FormName, window: Window, width: usize, look: Look) -> Shown
+    pub fn of(
+        alloc: Global,
+        form: FormName,
+        window: Window,
+        width: usize,
+        picture_options: PictureOptions,
+    ) -> Shown
         ensures shows { ShowsForm form window result }
-        ensures empty { IsEmptyForm width look result }
+        ensures empty { IsEmptyForm width picture_options result }
     {
         match form {
             FormName::Report => Shown::Report(Report::new(alloc, window)),
@@ -39,7 +45,7 @@ impl Shown {
             FormName::Timehist => Shown::Timehist(Timehist::new(window)),
             FormName::Csv => Shown::Csv(Csv::new(alloc, window)),
             FormName::Json => Shown::Json(Json::new(alloc, window)),
-            FormName::Svg => Shown::Svg(Svg::new(alloc, window, look)),
+            FormName::Svg => Shown::Svg(Svg::new(alloc, window, picture_options)),
             FormName::Perfetto => Shown::Perfetto(Perfetto::new(alloc, window)),
             FormName::Why => Shown::Why(WhyForm::new(alloc, window)),
         }

@@ -6,7 +6,7 @@ use crate::theme::Theme;
 
 /// The theme and the title of a picture.
 #[derive(Drop)]
-pub struct Look {
+pub struct PictureOptions {
     pub theme: Theme,
     /// The title of the picture, if it has its own.
     pub title: Option<String>,
@@ -15,7 +15,7 @@ pub struct Look {
 /// The title of a picture that has no title of its own.
 const UNTITLED: &str = "Schedule";
 
-impl Look {
+impl PictureOptions {
     /// Returns the title of the picture.
     pub fn title(&self) -> &str
         ensures { result.now ≡ title_of self.now }
