@@ -17,7 +17,7 @@ const NUMBERS: usize = 20;
 const NAME: usize = 42;
 
 /// How many lines the axis has at most.
-const MOST: u8 = 12;
+const MOST_LINES: u8 = 12;
 
 /// Adds the axis of time: lines at each multiple of `step` ns, from above the rows to below them, and the axis's name.
 pub fn write_axis(
@@ -29,7 +29,7 @@ pub fn write_axis(
 ) -> Result<(), AllocError>
     ensures { OnOk result (string_bytes text.new ≡ string_bytes text.old ++ axis_text (picture_setting frame.now) step top bottom) }
 {
-    for number in 0..MOST {
+    for number in 0..MOST_LINES {
         let at = line_at(step, number, &frame.scale);
         write_mark(at, frame, top, bottom, text)?;
     }

@@ -217,7 +217,7 @@ impl Drawing {
     fn has_link(&self, kind: LinkKind) -> bool
         ensures { result ≡ has_line kind self.now.links }
     {
-        self.links.iter().any(|link| link.kind.is(kind))
+        self.links.iter().any(|link| link.kind.is_same(kind))
     }
 
     /// Writes the rows of the window, and the lines between them.

@@ -10,7 +10,7 @@ use bq_words::DisciplineName;
 use std::alloc::AllocError;
 
 /// How many characters of a title are written above the picture.
-const MOST: usize = 90;
+const MOST_TITLE_CHARACTERS: usize = 90;
 
 /// The heading above a picture.
 #[derive(Clone, Copy)]
@@ -36,7 +36,7 @@ fn write_title(title: &str, text: &mut String) -> Result<(), AllocError>
     ensures { OnOk result (string_bytes text.new ≡ string_bytes text.old ++ title_text title.now) }
 {
     write!(text, "<text class=\"title\" x=\"{LEFT}\" y=\"34\">")?;
-    write_escaped(title, MOST, text)?;
+    write_escaped(title, MOST_TITLE_CHARACTERS, text)?;
     text.push_str("</text>\n")
 }
 

@@ -46,7 +46,7 @@ struct Line {
 
 impl LinkKind {
     /// Tells whether both kinds are the same.
-    pub fn is(self, other: LinkKind) -> bool
+    pub fn is_same(self, other: LinkKind) -> bool
         ensures { result ≡ same_kind self other }
     {
         match (self, other) {

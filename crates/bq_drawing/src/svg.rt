@@ -63,7 +63,7 @@ impl Svg {
     }
 
     /// Sets the discipline by which the processors choose, which the picture names.
-    pub fn under(&mut self, discipline: DisciplineName)
+    pub fn set_discipline(&mut self, discipline: DisciplineName)
         ensures { self.new ≡ record self.old { discipline = Some discipline } }
     {
         self.discipline = Some(discipline);

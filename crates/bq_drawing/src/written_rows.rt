@@ -38,7 +38,7 @@ impl WrittenRows {
             ≡ string_bytes self.old.links ++ link_line kind (picture_setting frame.now) (get nat_cmp self.old.bands) link.now) }
         ensures unchanged { self.new ≡ record self.old { links = self.new.links } }
     {
-        if !link.kind.is(kind) {
+        if !link.kind.is_same(kind) {
             return Ok(());
         }
         let from = self.bands.get(&link.from.processor).copied();

@@ -69,7 +69,7 @@ impl Shown {
             Shown::Csv(form) => form.begin(schedule, names, text),
             Shown::Json(form) => form.begin(schedule, names, text),
             Shown::Svg(form) => {
-                form.under(discipline);
+                form.set_discipline(discipline);
                 form.begin(schedule, names, text)
             }
             Shown::Perfetto(form) => form.begin(schedule, names, text),
