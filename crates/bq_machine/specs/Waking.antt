@@ -5,8 +5,8 @@ use Rattle.bq_parts.specs.declared.refusal.Refusal.TheVariants as no
 use Rattle.bq_history.specs.declared.cell.Cell.{Cell}
 use Rattle.bq_history.specs.Items.{part_item}
 use Rattle.bq_shared.specs.declared.cells.NumberedCpu.{NumberedCpu}
-use Rattle.bq_shared.specs.declared.law.JournalState.{JournalState}
-use Rattle.bq_shared.specs.declared.law.WorldPart.{WorldPart}
+use Rattle.bq_shared.specs.declared.journal_state.JournalState.{JournalState}
+use Rattle.bq_shared.specs.declared.world_part.WorldPart.{WorldPart}
 use Rattle.bq_shared.specs.declared.record.Record.{Record}
 use Rattle.bq_shared.specs.Parts.{cpu_part}
 use Rattle.bq_machine.specs.Calls.{RecordsAtReading}

@@ -5,12 +5,12 @@
 #![tactic(auto)]
 
 pub mod clock;
-mod closed;
 pub mod loading_calls;
 pub mod lobby_calls;
 pub mod machine;
+mod machine_end;
+mod machine_start;
 mod needs;
-mod opened;
 mod prepared_install;
 mod pulling_calls;
 mod records;

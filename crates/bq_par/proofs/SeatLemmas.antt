@@ -25,8 +25,8 @@ use Rattle.bq_shared.specs.contracts.working.Working as Working
 use Rattle.bq_shared.proofs.working.Working.TheSendSync as working
 use Rattle.bq_shared.specs.contracts.record.Record as Record
 use Rattle.bq_shared.specs.contracts.record.RecordReportsCalls.TheImpl as reported
-use Rattle.bq_shared.specs.contracts.law.JournalState as JournalState
-use Rattle.bq_shared.specs.contracts.law.WorldPart as WorldPart
+use Rattle.bq_shared.specs.contracts.journal_state.JournalState as JournalState
+use Rattle.bq_shared.specs.contracts.world_part.WorldPart as WorldPart
 use Rattle.bq_shared.proofs.SendLemmas.{record_send}
 use Rattle.bq_par.specs.contracts.shift.ReturnedSeat as ReturnedSeat
 

@@ -22,8 +22,8 @@ use Rattle.bq_shared.specs.contracts.cells.NumberedCpuAsPartWorldPart.TheImpl as
 use Rattle.bq_shared.specs.contracts.cells.NumberedInboxAsPartWorldPart.TheImpl as inbox_part
 use Rattle.bq_shared.specs.contracts.cells.OneLobbyAsPartWorldPart.TheImpl as lobby_part
 use Rattle.bq_shared.specs.contracts.record.Record as Record
-use Rattle.bq_shared.specs.contracts.law.JournalState as JournalState
-use Rattle.bq_shared.specs.contracts.law.WorldPart as WorldPart
+use Rattle.bq_shared.specs.contracts.journal_state.JournalState as JournalState
+use Rattle.bq_shared.specs.contracts.world_part.WorldPart as WorldPart
 use Rattle.bq_disc.proofs.node.Node.TheLaws.TheKnot as knot
 use Rattle.bq_parts.specs.contracts.inbox.Inbox as Inbox
 use Rattle.bq_recording.specs.contracts.closing_room.ClosingRoom as ClosingRoom

@@ -14,11 +14,11 @@ use Rattle.bq_parts.specs.declared.lobby_entry.LobbyEntry.{LobbyEntry}
 use Rattle.bq_shared.specs.Opened.{ItemOf}
 use Rattle.bq_recording.specs.AllParts.{all_parts}
 use Rattle.bq_shared.specs.Parts.{cpu_part, inbox_part, lobby_part, same_part, HasPart, RecordStep, journal_state_of}
-use Rattle.bq_shared.specs.declared.law.WorldPart.{WorldPart}
-use Rattle.bq_shared.specs.declared.law.JournalState.{JournalState}
+use Rattle.bq_shared.specs.declared.world_part.WorldPart.{WorldPart}
+use Rattle.bq_shared.specs.declared.journal_state.JournalState.{JournalState}
 use Rattle.bq_shared.specs.declared.record.Record.{Record}
 use Rattle.bq_shared.proofs.ReachedLemmas.{IsSound, reached_sound}
-use Rattle.bq_shared.specs.declared.law.WorldPart.TheVariants as part
+use Rattle.bq_shared.specs.declared.world_part.WorldPart.TheVariants as part
 
 -- the parts of the items of some parts
 pub parts_back : (ps : List WorldPart) → let l : List ItemOf = map part_item ps in parts_of l ≡ ps

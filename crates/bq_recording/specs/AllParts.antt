@@ -6,7 +6,7 @@ use Rattle.bq_parts.specs.World.{World, count_in}
 use Rattle.bq_shared.specs.Parts.{cpu_part, inbox_part, lobby_part, HasPart}
 use Rattle.bq_shared.specs.declared.cells.NumberedCpu.{NumberedCpu}
 use Rattle.bq_shared.specs.declared.cells.NumberedInbox.{NumberedInbox}
-use Rattle.bq_shared.specs.declared.law.WorldPart.{WorldPart}
+use Rattle.bq_shared.specs.declared.world_part.WorldPart.{WorldPart}
 
 -- the lobby, the part that f makes of each of the first list, and the part that h makes of each of the second
 abbrev pub all_parts : {A B : Type 0} → List LobbyEntry → List A → List B → (A → WorldPart) → (B → WorldPart) → List WorldPart

@@ -9,10 +9,10 @@ ghost use Rattle.bq_shared.specs.Calls.{calls_in};
 ghost use Rattle.bq_parts.specs.World.{World, opening_world};
 ghost use Rattle.bq_parts.specs.Orderly.{IsOrderly};
 ghost use Rattle.bq_shared.specs.Parts.{RecordStep, reported_calls, same_part};
-ghost use Rattle.bq_shared.specs.declared.law.WorldPart.{WorldPart as PartOf};
+ghost use Rattle.bq_shared.specs.declared.world_part.WorldPart.{WorldPart as PartOf};
 ghost use Rattle.bq_recording.specs.AllParts.{parts_out, IsMadeOf};
 
-use crate::closed::Closed;
+use crate::closed_machine::Closed;
 use crate::closing_room::ClosingRoom;
 use bq_core::Core;
 use bq_disc::RunQueue;

@@ -4,7 +4,7 @@
 //! that each counter is the sum of its adds. Builds on bq_shared for the law, the cells, the seats and the counters.
 #![tactic(auto)]
 
-pub mod closed;
+pub mod closed_machine;
 pub mod closing_room;
 pub mod ended;
 pub mod locked_parts;
@@ -13,7 +13,7 @@ pub mod prepared;
 pub mod queues;
 pub mod recorder;
 
-pub use closed::Closed;
+pub use closed_machine::Closed;
 pub use closing_room::ClosingRoom;
 pub use ended::{Locks, close};
 pub use locked_parts::{PartLocks, part_locks};

@@ -28,7 +28,7 @@ use Rattle.bq_parts.proofs.TallyLemmas.{tally, tally-decided, tally-charge, tall
 use Rattle.bq_core.proofs.StepLemmas.{in_range_not_refused}
 use Rattle.bq_core.proofs.MoveLemmas.{tally-after_leaving}
 use Rattle.bq_core.proofs.ShareStepLemmas.{admits_step, retires_step, ticks_step, drains_step, blocks_step, begins_step, places_step, installs_step}
-use Rattle.bq_shared.specs.declared.law.JournalState.{JournalState}
+use Rattle.bq_shared.specs.declared.journal_state.JournalState.{JournalState}
 use Rattle.bq_shared.specs.Parts.{cpu_part, inbox_part, lobby_part, journal_state_of, one_less, with_one_more, kept_by_block}
 use Rattle.bq_shared.proofs.ReachedLemmas.{IsSound}
 use Rattle.bq_shared.proofs.WantLemmas.{admits_named, retires_named, blocks_named, begins_named, installs_named}

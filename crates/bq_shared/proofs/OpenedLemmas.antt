@@ -12,8 +12,8 @@ use Rattle.bq_parts.specs.World.{opening_world}
 use Rattle.bq_shared.proofs.SeatLemmas.{left_over}
 use Rattle.bq_shared.specs.Parts.{same_part, HasPart, first_parts, cpus_from, inboxes_from}
 use Rattle.bq_shared.specs.Opened.{ItemOf, cpu_items, inbox_items}
-use Rattle.bq_shared.specs.declared.law.WorldPart.{WorldPart}
-use Rattle.bq_shared.specs.declared.law.WorldPart.TheVariants as part
+use Rattle.bq_shared.specs.declared.world_part.WorldPart.{WorldPart}
+use Rattle.bq_shared.specs.declared.world_part.WorldPart.TheVariants as part
 
 -- how often d is among the n numbers from c on
 abbrev tally : ℕ → ℕ → ℕ → ℕ

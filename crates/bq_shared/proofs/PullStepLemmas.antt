@@ -27,7 +27,7 @@ use Rattle.bq_parts.proofs.PermittedLemmas.{settled_permitted, own_pull_permitte
 use Rattle.bq_core.proofs.StepLemmas.{in_range_not_refused}
 use Rattle.bq_core.proofs.MoveLemmas.{tally-pulled, tally-without_task}
 use Rattle.bq_core.proofs.ShareStepLemmas.{pulls_step}
-use Rattle.bq_shared.specs.declared.law.JournalState.{JournalState}
+use Rattle.bq_shared.specs.declared.journal_state.JournalState.{JournalState}
 use Rattle.bq_shared.specs.Parts.{cpu_part, journal_state_of, one_less, kept_by_pull}
 use Rattle.bq_shared.proofs.ReachedLemmas.{IsSound}
 use Rattle.bq_shared.proofs.ShapeLemmas.{MayCommitHere, moves_two_cpus}

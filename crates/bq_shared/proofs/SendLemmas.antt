@@ -18,7 +18,7 @@ use Rattle.bq_shared.specs.contracts.cells.NumberedInbox as NumberedInbox
 use Rattle.bq_shared.specs.contracts.cells.OneLobby as OneLobby
 use Rattle.bq_shared.specs.contracts.record.Record as Record
 use Rattle.bq_shared.specs.contracts.calls.Calls as Calls
-use Rattle.bq_shared.specs.contracts.law.JournalState as JournalState
+use Rattle.bq_shared.specs.contracts.journal_state.JournalState as JournalState
 
 -- a processor with its number may cross threads, where its queue may
 pub numbered_send : (Q R : RattleType) (g : Queue.Ghosts Q.Denot R.Denot) (h : Discipline.Ghosts R.Denot)

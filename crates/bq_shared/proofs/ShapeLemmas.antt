@@ -8,9 +8,9 @@ use Rattle.bq_disc.specs.Discipline.{Discipline}
 use Rattle.bq_parts.specs.declared.lobby_entry.LobbyEntry.{LobbyEntry}
 use Rattle.bq_parts.specs.Processors.{Processor, new_processor}
 use Rattle.bq_parts.specs.World.{World, opening_world, processor_at, inbox, count_in, with_processor, with_inbox}
-use Rattle.bq_shared.specs.declared.law.JournalState.{JournalState}
-use Rattle.bq_shared.specs.declared.law.WorldPart.{WorldPart}
-use Rattle.bq_shared.specs.declared.law.WorldPart.TheVariants as part
+use Rattle.bq_shared.specs.declared.journal_state.JournalState.{JournalState}
+use Rattle.bq_shared.specs.declared.world_part.WorldPart.{WorldPart}
+use Rattle.bq_shared.specs.declared.world_part.WorldPart.TheVariants as part
 use Rattle.bq_shared.specs.declared.record.Record.{Record}
 use Rattle.bq_shared.specs.Parts.{RecordStep, cpu_part, inbox_part, lobby_part, same_part, HasPart, journal_state_of}
 use Rattle.bq_shared.proofs.ReachedLemmas.{IsSound, reached_sound}

@@ -3,9 +3,9 @@ use Rattle.std.specs.Prelude.{ℕ, zero, suc, ◌+◌, List, [], ◌∷◌}
 use Rattle.bq_history.specs.declared.shared_state.Item.{Item}
 use Rattle.bq_history.specs.Items.{part_item}
 use Rattle.bq_parts.specs.Processors.{new_processor}
-use Rattle.bq_shared.specs.declared.law.JournalState.{JournalState}
-use Rattle.bq_shared.specs.declared.law.WorldPart.{WorldPart}
-use Rattle.bq_shared.specs.declared.law.WorldPart.TheVariants as part
+use Rattle.bq_shared.specs.declared.journal_state.JournalState.{JournalState}
+use Rattle.bq_shared.specs.declared.world_part.WorldPart.{WorldPart}
+use Rattle.bq_shared.specs.declared.world_part.WorldPart.TheVariants as part
 use Rattle.bq_shared.specs.declared.record.Record.{Record}
 
 -- an item of a holder

@@ -15,9 +15,9 @@ use Rattle.bq_parts.specs.World.{World, processor_at, inbox, count_in, loads_of}
 use Rattle.bq_parts.specs.Refusals.{argument_refusal}
 use Rattle.bq_parts.specs.Choices.{by_programs}
 use Rattle.bq_parts.specs.Steps.{WorldStep}
-use Rattle.bq_shared.specs.declared.law.JournalState.{JournalState}
-use Rattle.bq_shared.specs.declared.law.WorldPart.{WorldPart}
-use Rattle.bq_shared.specs.declared.law.WorldPart.TheVariants as part
+use Rattle.bq_shared.specs.declared.journal_state.JournalState.{JournalState}
+use Rattle.bq_shared.specs.declared.world_part.WorldPart.{WorldPart}
+use Rattle.bq_shared.specs.declared.world_part.WorldPart.TheVariants as part
 use Rattle.bq_shared.specs.declared.record.Record.{Record}
 
 -- A record is of a step of the world. The arguments of its event are not refused, and memory has not run out

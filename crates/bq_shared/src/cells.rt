@@ -1,7 +1,8 @@
 //! The contents of the locks.
 
-use crate::law::{JournalState, WorldPart};
+use crate::journal_state::JournalState;
 use crate::record::Record;
+use crate::world_part::WorldPart;
 use bq_disc::RunQueue;
 use bq_history::{AsPart, HasContent, Locked, Placed};
 use bq_installed::Scratch;

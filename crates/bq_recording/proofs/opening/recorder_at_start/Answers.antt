@@ -2,7 +2,7 @@ use Rattle.std.proofs.Common.{◌≡◌, ◌∷◌, [], List, ℕ, replicate, ap
 use Rattle.bq_history.specs.Whole.{first_item, others_of}
 use Rattle.bq_history.specs.Items.{journal_item}
 use Rattle.bq_parts.specs.World.{opening_world}
-use Rattle.bq_shared.specs.declared.law.JournalState.{JournalState}
+use Rattle.bq_shared.specs.declared.journal_state.JournalState.{JournalState}
 use Rattle.bq_shared.proofs.LoadLemmas.{opening_loads}
 use Rattle.bq_shared.specs.Parts.{journal_state_of}
 use Rattle.bq_recording.proofs.opening.recorder_at_start.Goals as goal

@@ -1,43 +1,10 @@
-//! The world in parts, as the holders know them.
+//! What the journal keeps of the world.
 ghost use Rattle.std.specs.Prelude.{◌≡◌};
 ghost use Rattle.bq_history.specs.Journals.{kept_after};
 ghost use Rattle.bq_shared.specs.Parts.{kept_by_block, kept_by_pull, one_less, with_one_more};
 
-use crate::record::Record;
-use bq_disc::RunQueue;
-use bq_history::{History, World};
 use bq_hooks::Loads;
-use bq_parts::{Inbox, Lobby, Refusal, Reply};
-use std::marker::{Model, PhantomData};
-
-/// For contracts only, so no value exists at run time: a processor as the world sees it.
-pub struct CpuState;
-
-impl Model for CpuState {
-    ghost use Rattle.bq_parts.specs.Processors.{Processor, new_processor};
-
-    ghost Value = { Processor };
-
-    ghost view = { λ _. new_processor };
-}
-
-/// For contracts only, so no value exists at run time: the world.
-pub struct WorldState;
-
-impl Model for WorldState {
-    ghost use Rattle.bq_parts.specs.World.{World, opening_world};
-
-    ghost Value = { World };
-
-    ghost view = { λ _. opening_world 0 };
-}
-
-/// For contracts only, so no value exists at run time: a part of the world.
-pub enum WorldPart {
-    Cpu(u8, CpuState),
-    Inbox(u8, Inbox),
-    Lobby(Lobby),
-}
+use bq_parts::{Refusal, Reply};
 
 /// What the journal keeps of the world: the last number drawn, and the load of each processor.
 #[derive(Drop)]
@@ -105,39 +72,4 @@ impl JournalState {
         kept.one_more(processor);
         Some(kept)
     }
-}
-
-/// The law of the world under the discipline of a queue. The number of processors is fixed.
-pub struct SchedulerLaw<Q> {
-    of: PhantomData<Q>,
-}
-
-/// The history, as all callers share it.
-pub type Shared<Q, N> = History<SchedulerLaw<Q>, N>;
-
-impl<Q: RunQueue> World for SchedulerLaw<Q> {
-    type Record = Record;
-
-    type State = WorldState;
-
-    type Part = WorldPart;
-
-    type Kept = JournalState;
-
-    type Setup = u64;
-
-    ghost use Rattle.bq_parts.specs.World.{opening_world};
-    ghost use Rattle.bq_shared.specs.Parts.{RecordStep, journal_state_of, same_part, HasPart, first_parts};
-
-    ghost opening = { opening_world };
-
-    ghost step = { λ _. RecordStep Q.R.discipline };
-
-    ghost kept = { journal_state_of };
-
-    ghost same = { same_part };
-
-    ghost fits = { HasPart };
-
-    ghost first = { first_parts };
 }

@@ -5,7 +5,7 @@ use Rattle.bq_history.specs.Items.{caller_of}
 use Rattle.bq_history.proofs.ClosingLemmas.{map_self}
 use Rattle.bq_shared.specs.Calls.{account_of}
 use Rattle.bq_shared.proofs.AccountLemmas.{accounts_more, mapped_more}
-use Rattle.bq_shared.proofs.closed.leave_all.Goals as goal
+use Rattle.bq_shared.proofs.end_of_tables.leave_all.Goals as goal
 
 pub loop-seat-preserved : goal.loop-seat-preserved
 loop-seat-preserved g c =

@@ -3,7 +3,7 @@ use Rattle.bq_history.specs.Whole.{first_item, others_of}
 use Rattle.bq_shared.specs.Sums.{without_one}
 use Rattle.bq_shared.specs.Calls.{fresh_callers}
 use Rattle.bq_shared.proofs.SeatLemmas.{caller_turn, account_turn, fresh_more}
-use Rattle.bq_shared.proofs.opened.seats.Goals as goal
+use Rattle.bq_shared.proofs.seats_at_start.seats.Goals as goal
 
 pub next_seat-requires-clause-first : goal.next_seat-requires-clause-first
 next_seat-requires-clause-first g c =

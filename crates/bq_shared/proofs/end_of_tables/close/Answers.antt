@@ -5,7 +5,7 @@ use Rattle.bq_history.proofs.ClosingLemmas.{joined, parts_joined, callers_joined
 use Rattle.bq_shared.specs.declared.account.Account.{Account}
 use Rattle.bq_shared.specs.Sums.{AreSumsOf}
 use Rattle.bq_shared.proofs.AccountLemmas.{sums_of_history}
-use Rattle.bq_shared.proofs.closed.close.Goals as goal
+use Rattle.bq_shared.proofs.end_of_tables.close.Goals as goal
 
 pub finish-log-requires : goal.finish-log-requires
 finish-log-requires g c =

@@ -1,7 +1,7 @@
 use Rattle.std.proofs.Common.{◌≡◌, ◌++◌, map}
 use Rattle.bq_history.specs.Items.{caller_of}
 use Rattle.bq_shared.specs.Calls.{account_by}
-use Rattle.bq_shared.proofs.closed.leave_all.Given as goal
+use Rattle.bq_shared.proofs.end_of_tables.leave_all.Given as goal
 
 abbrev pub invariant-loop-seat : goal.invariant-loop-seat
 invariant-loop-seat g l = record {
