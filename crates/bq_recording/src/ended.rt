@@ -9,7 +9,7 @@ ghost use Rattle.bq_shared.specs.Calls.{calls_in};
 ghost use Rattle.bq_parts.specs.World.{World, opening_world};
 ghost use Rattle.bq_parts.specs.Orderly.{IsOrderly};
 ghost use Rattle.bq_shared.specs.Parts.{RecordStep, reported_calls, same_part};
-ghost use Rattle.bq_shared.specs.declared.world_part.WorldPart.{WorldPart as PartOf};
+ghost use Rattle.bq_shared.specs.declared.world_part.WorldPart.{WorldPart as WorldPartValue};
 ghost use Rattle.bq_recording.specs.AllParts.{parts_out, IsMadeOf};
 
 use crate::closed_machine::Closed;
@@ -123,7 +123,7 @@ fn take_contents<Q: RunQueue + Drop, N: Naming + Counting, const P: usize>(
 /// Makes the core of the world that has these parts.
 fn core_of<Q: RunQueue + Drop, const P: usize>(contents: Contents<Q, P>, drawn: u64) -> Core<Q, P>
     requires few { P ≤ PROCESSORS }
-    requires once { (p : PartOf) → count (same_part p) (parts_out contents.lobby contents.cpus.items contents.inboxes.items) ≤ 1 }
+    requires once { (p : WorldPartValue) → count (same_part p) (parts_out contents.lobby contents.cpus.items contents.inboxes.items) ≤ 1 }
     requires world { (w : World) × IsOrderly w × IsMadeOf P drawn (parts_out contents.lobby contents.cpus.items contents.inboxes.items) w }
     ensures { (w : World) → IsMadeOf P drawn (parts_out contents.lobby contents.cpus.items contents.inboxes.items) w → result ≡ w }
 {

@@ -16,10 +16,10 @@ pub struct Calls {
 
 impl Model for Calls {
     ghost use Rattle.std.specs.Prelude.{List};
-    ghost use Rattle.bq_bpf.specs.declared.board.CounterCall.{CounterCall as CallOf};
+    ghost use Rattle.bq_bpf.specs.declared.board.CounterCall.{CounterCall as CounterCallValue};
     ghost use Rattle.bq_shared.specs.Listed.{listed};
 
-    ghost Value = { List CallOf };
+    ghost Value = { List CounterCallValue };
 
     ghost view = { λ c. listed c.list (λ b. b.value.items) };
 }

@@ -58,11 +58,11 @@ pub struct PackedAnswer {
 
 impl Model for PackedAnswer {
     ghost use Rattle.std.specs.Prelude.{Result};
-    ghost use Rattle.bq_parts.specs.declared.reply.Reply.{Reply as Replied};
-    ghost use Rattle.bq_parts.specs.declared.refusal.Refusal.{Refusal as Refused};
+    ghost use Rattle.bq_parts.specs.declared.reply.Reply.{Reply as ReplyValue};
+    ghost use Rattle.bq_parts.specs.declared.refusal.Refusal.{Refusal as RefusalValue};
     ghost use Rattle.bq_shared.specs.PackedReplies.{unpacked_answer};
 
-    ghost Value = { Result Replied Refused };
+    ghost Value = { Result ReplyValue RefusalValue };
 
     ghost view = { λ a. unpacked_answer a.packed };
 }

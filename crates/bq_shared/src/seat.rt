@@ -1,7 +1,7 @@
 //! A seat: a caller of the history with its account of the counters.
 ghost use Rattle.std.specs.Prelude.{◌≡◌, ◌<◌, ◌∷◌, ◌++◌, ℕ, List, []};
 ghost use Rattle.bq_bpf.specs.declared.board.CounterCall.{CounterCall};
-ghost use Rattle.bq_history.specs.declared.shared_state.Receipt.{Receipt as ReceiptOf};
+ghost use Rattle.bq_history.specs.declared.shared_state.Receipt.{Receipt as ReceiptValue};
 ghost use Rattle.bq_history.specs.Callers.{receipts_of};
 ghost use Rattle.bq_history.specs.Items.{caller_of};
 ghost use Rattle.bq_shared.specs.Sums.{joined_accounts, fresh_account};
@@ -35,9 +35,9 @@ pub struct Seat<R: ReportsCalls + Drop, P, D, N: Naming + Counting> {
 
 impl<R: ReportsCalls + Drop, P, D, N: Naming + Counting> Model for Seat<R, P, D, N> {
     ghost use Rattle.std.specs.Prelude.{◌≡◌, ℕ, List};
-    ghost use Rattle.bq_history.specs.declared.shared_state.Receipt.{Receipt as ReceiptOf};
+    ghost use Rattle.bq_history.specs.declared.shared_state.Receipt.{Receipt as ReceiptValue};
 
-    ghost Value = { ℕ × List (ReceiptOf R) };
+    ghost Value = { ℕ × List (ReceiptValue R) };
 
     ghost use Rattle.bq_shared.specs.Calls.{AccountMatchesReceipts};
 
