@@ -6,7 +6,7 @@ ghost use Rattle.bq_policy_run.specs.Runs.{FitsProgram};
 ghost use Rattle.bq_policy_run.specs.Running.{HasRun, RunsFile, RunsPolicy, RunsProgram, RunsTo, ReportsRun, BeginsWithVerdict, answer_line};
 
 use crate::explaining::explaining_line;
-use crate::naming::inputs_named;
+use crate::named_inputs::inputs_named;
 use crate::repeats::runs_before;
 use crate::timing::time_line;
 use crate::traces::executed_text;
@@ -154,12 +154,12 @@ fn run_on(
     let is_traced = words.report.is_traced;
     let executed = executed_text(alloc, is_traced, policy, verified, snapshots.as_slice())?;
     let changes = changed_text(alloc, first.as_slice(), inputs, &ran)?;
-    let behind = Behind {
+    let tail = AnswerTail {
         executed: &executed,
         changes: &changes,
         line,
     };
-    let text = reported(alloc, verified, inputs, &ran, &behind)?;
+    let text = reported(alloc, verified, inputs, &ran, &tail)?;
     Ok(Answered::Done(text))
 }
 
@@ -180,7 +180,7 @@ fn changed_text(
 
 /// What is shown after the answer of a run.
 #[derive(Clone, Copy)]
-struct Behind<'a> {
+struct AnswerTail<'a> {
     /// The instructions that it executed, if that is asked for.
     executed: &'a String,
     /// What it changed.
@@ -195,20 +195,20 @@ fn reported(
     verified: &Verified,
     inputs: &Inputs,
     ran: &Ran,
-    behind: &Behind,
+    tail: &AnswerTail,
 ) -> Result<String, AllocError>
     requires { length inputs.now.context.items ≡ context_length_of verified.now.hook verified.now.version }
     ensures { IfOk result (λ text. ReportsRun verified.now inputs.now.context.items ran.now.r0 ran.now.steps
-        (string_bytes behind.now.executed.now) (string_bytes behind.now.changes.now) (string_bytes behind.now.line.now) (string_bytes text)) }
+        (string_bytes tail.now.executed.now) (string_bytes tail.now.changes.now) (string_bytes tail.now.line.now) (string_bytes text)) }
 {
     let r0 = ran.r0;
     let word = word_text(alloc, verified.hook(), inputs.context.as_slice(), r0)?;
     let first = answer_line(alloc, verified, r0, ran.steps, &word)?;
-    let Behind {
+    let AnswerTail {
         executed,
         changes,
         line,
-    } = behind;
+    } = tail;
     format!(in alloc; "{first}{executed}{changes}{line}")
 }
 

@@ -1,7 +1,7 @@
 //! The time that runs of a policy take.
 ghost use Rattle.std.specs.Prelude.{◌≡◌, [], IfOk, IsNone, string_bytes};
 
-use crate::naming::inputs_named;
+use crate::named_inputs::inputs_named;
 use crate::repeats::runs_before;
 use crate::{Inputs, run_often};
 use bq_policy_check::RunWords;

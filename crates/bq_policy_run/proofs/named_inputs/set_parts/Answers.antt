@@ -2,7 +2,7 @@ use Rattle.std.proofs.lemmas.Result.{err_from_is_err_and}
 use Rattle.bq_policy_run.specs.Naming.{SetsCounter, SetsEntry, SetsFields, TextsInTurn}
 use Rattle.bq_policy_run.specs.Running.{SetsParts}
 use Rattle.bq_console.proofs.GivenLemmas.{none_of_part}
-use Rattle.bq_policy_run.proofs.naming.set_parts.Goals as goal
+use Rattle.bq_policy_run.proofs.named_inputs.set_parts.Goals as goal
 
 pub returns-in_err-set_all_fields-clause-refused : goal.returns-in_err-set_all_fields-clause-refused
 returns-in_err-set_all_fields-clause-refused c =

@@ -1,7 +1,7 @@
 use Rattle.bq_policy_run.specs.Naming.{SetsField}
 use Rattle.bq_console.proofs.GivenLemmas.{none_given}
 use Rattle.bq_policy_run.proofs.RefusalLemmas.{no_field_named, no_field_put, no_field_value}
-use Rattle.bq_policy_run.proofs.settings.put_field.Goals as goal
+use Rattle.bq_policy_run.proofs.field_words.put_field.Goals as goal
 
 pub returns-in_default-field_word-clause-refused : goal.returns-in_default-field_word-clause-refused
 returns-in_default-field_word-clause-refused c =

@@ -1,6 +1,6 @@
 use Rattle.std.proofs.Common.{◌≡◌, false, true}
 use Rattle.bq_policy_run.proofs.RefusalLemmas.{no_field_word}
-use Rattle.bq_policy_run.proofs.settings.field_word.Goals as goal
+use Rattle.bq_policy_run.proofs.field_words.field_word.Goals as goal
 
 pub returns-in-None-2-clause-none : goal.returns-in-None-2-clause-none
 returns-in-None-2-clause-none c =

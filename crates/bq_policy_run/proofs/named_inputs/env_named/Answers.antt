@@ -4,7 +4,7 @@ use Rattle.bq_bpf.specs.declared.runs.Env.{Env}
 use Rattle.bq_policy_run.specs.Running.{HasClock, IsNumberOrZero, IsTime}
 use Rattle.bq_policy_check.specs.Given.{option_bytes}
 use Rattle.bq_console.proofs.GivenLemmas.{none_whole}
-use Rattle.bq_policy_run.proofs.naming.env_named.Goals as goal
+use Rattle.bq_policy_run.proofs.named_inputs.env_named.Goals as goal
 
 pub returns-in_err-now-clause-none : goal.returns-in_err-now-clause-none
 returns-in_err-now-clause-none c =

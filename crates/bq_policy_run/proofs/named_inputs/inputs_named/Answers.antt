@@ -6,7 +6,7 @@ use Rattle.bq_policy_run.specs.Running.{HasClock, HasInputs, SetsParts}
 use Rattle.bq_policy_check.specs.Given.{option_bytes}
 use Rattle.bq_policy_run.proofs.NamingLemmas.{parts_set}
 use Rattle.bq_console.proofs.GivenLemmas.{none_of_part, none_whole}
-use Rattle.bq_policy_run.proofs.naming.inputs_named.Goals as goal
+use Rattle.bq_policy_run.proofs.named_inputs.inputs_named.Goals as goal
 
 pub returns-in_err-env-clause-none : goal.returns-in_err-env-clause-none
 returns-in_err-env-clause-none c =
