@@ -1,8 +1,12 @@
 -- What a filter reads and writes.
 use Rattle.std.specs.Prelude.{◌≡◌, ℕ, Bool, false, List, Option, ◌⊎◌}
 use Rattle.std.specs.Io.KnownBytes.{Appends, Keeps}
+use Rattle.bq_streams.specs.Counts.{call_count, failures_of}
+use Rattle.bq_streams.specs.Faults.{IsStreamFault}
 use Rattle.bq_streams.specs.Reading.{GivesAll, GivesSome}
 use Rattle.bq_streams.specs.Writing.{AppendsPart}
+use Rattle.bq_streams.specs.declared.counted.Counted.{Counted}
+use Rattle.bq_streams.specs.declared.fault.StreamFault.{StreamFault}
 use Rattle.bq_policy_file.specs.Asm.{AsmWrites}
 use Rattle.bq_policy_file.specs.Check.{CheckWrites}
 use Rattle.bq_policy_file.specs.Dis.{DisWrites}
@@ -77,3 +81,8 @@ AsmFilters o from to old new accepted = AnswersInForm o from to old new accepted
 -- `asm` broke off: in its answer, in the line that refuses the options, or before it did anything
 abbrev pub AsmFiltersInPart : Options → Option (List ℕ) → Option (List ℕ) → Option (List ℕ) → Option (List ℕ) → Type 0
 AsmFiltersInPart o from to old new = BreaksOffInForm o from to old new ⊎ (RefusesInPart o from to old new ⊎ DoesNothing from to old new)
+
+-- The fault of a reader and a writer that a command has led from their old counts to their new ones: it comes only for its cause.
+abbrev pub IsFaultOf : {R W : Type 0} → Counted R → Counted R → Counted W → Counted W → StreamFault → Type 0
+IsFaultOf input read output written why =
+    IsStreamFault why (failures_of input) (failures_of read) (failures_of output) (failures_of written) (call_count input) (call_count read)

@@ -2,10 +2,10 @@
 ghost use Rattle.std.specs.Prelude.{◌≡◌, IfOk, IfErr, OnOk, OnErr};
 ghost use Rattle.std.specs.String.{string_bytes};
 ghost use Rattle.std.specs.Io.KnownBytes.{Appends};
-ghost use Rattle.bq_streams.specs.Counts.{counted_inner, call_count, failures_of};
+ghost use Rattle.bq_streams.specs.Counts.{counted_inner, failures_of};
 ghost use Rattle.bq_streams.specs.Writing.{AppendsPart};
-ghost use Rattle.bq_streams.specs.Faults.{IsStreamFault, IsWriteFault};
-ghost use Rattle.bq_cli.specs.Filtering.{FiltersAll, AsmFilters, AsmFiltersInPart, FilteringBreaksOff, FilterWrites};
+ghost use Rattle.bq_streams.specs.Faults.{IsWriteFault};
+ghost use Rattle.bq_cli.specs.Filtering.{FiltersAll, AsmFilters, AsmFiltersInPart, FilteringBreaksOff, FilterWrites, IsFaultOf};
 
 use bq_policy_file::{
     Answer, Options, ProgramForm, assembled, checked, disassembled, refused_options,
@@ -51,8 +51,7 @@ pub(crate) fn answer_all<R: Read, W: Write>(
     ensures writes { OnOk result (failures_of output.new ≡ failures_of output.old) }
     ensures part { OnErr result (FilteringBreaksOff (FilterWrites filter.now) (R.remaining (counted_inner input.old)) (R.remaining (counted_inner input.new))
         (W.contents (counted_inner output.old)) (W.contents (counted_inner output.new))) }
-    ensures fault { IfErr result (λ e. IsStreamFault e (failures_of input.old) (failures_of input.new)
-        (failures_of output.old) (failures_of output.new) (call_count input.old) (call_count input.new)) }
+    ensures fault { IfErr result (IsFaultOf input.old input.new output.old output.new) }
 {
     let whole = read_whole(alloc, input)?;
     let answer = filter.answer(alloc, whole.as_slice())?;
@@ -73,8 +72,7 @@ pub(crate) fn filter_asm<R: Read, W: Write>(
     ensures writes { OnOk result (failures_of output.new ≡ failures_of output.old) }
     ensures part { OnErr result (AsmFiltersInPart options.now (R.remaining (counted_inner input.old)) (R.remaining (counted_inner input.new))
         (W.contents (counted_inner output.old)) (W.contents (counted_inner output.new))) }
-    ensures fault { IfErr result (λ e. IsStreamFault e (failures_of input.old) (failures_of input.new)
-        (failures_of output.old) (failures_of output.new) (call_count input.old) (call_count input.new)) }
+    ensures fault { IfErr result (IsFaultOf input.old input.new output.old output.new) }
 {
     match options.form(alloc) {
         Ok(form) => answer_all(alloc, &Filter::Asm(form), input, output),

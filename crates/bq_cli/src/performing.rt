@@ -1,7 +1,7 @@
 //! What is read and written for a command, by any reader and writer.
 ghost use Rattle.std.specs.Prelude.{◌≡◌, IfOk, IfErr, OnOk, OnErr};
-ghost use Rattle.bq_streams.specs.Counts.{counted_inner, call_count, failures_of};
-ghost use Rattle.bq_streams.specs.Faults.{IsStreamFault};
+ghost use Rattle.bq_streams.specs.Counts.{counted_inner, failures_of};
+ghost use Rattle.bq_cli.specs.Filtering.{IsFaultOf};
 ghost use Rattle.bq_cli.specs.Performing.{PerformsCommand, PerformsInPart};
 
 use crate::check::is_plain_check;
@@ -34,8 +34,7 @@ pub fn perform<T: Threads + Wait + Sync, R: Read, W: Write>(
     ensures writes { OnOk result (failures_of output.new ≡ failures_of output.old) }
     ensures part { OnErr result (PerformsInPart command.now (R.remaining (counted_inner input.old)) (R.remaining (counted_inner input.new))
         (W.contents (counted_inner output.old)) (W.contents (counted_inner output.new))) }
-    ensures fault { IfErr result (λ e. IsStreamFault e (failures_of input.old) (failures_of input.new)
-        (failures_of output.old) (failures_of output.new) (call_count input.old) (call_count input.new)) }
+    ensures fault { IfErr result (IsFaultOf input.old input.new output.old output.new) }
 {
     match command {
         Command::Asm(words) => filter_asm(alloc, &words.options, input, output),

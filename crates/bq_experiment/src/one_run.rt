@@ -11,7 +11,7 @@ ghost use Rattle.bq_workload.specs.Soundness.{first_flaw};
 ghost use Rattle.bq_experiment.specs.Faults.{IsNoEnd, IsRunFault, IsRunStopped};
 ghost use Rattle.bq_experiment.specs.Standing.{AreOfTheirImages, image_for};
 ghost use Rattle.bq_experiment.specs.Traces.{IsNamed, IsWritten, WritesTrace};
-ghost use Rattle.bq_experiment.specs.Views.{AreNotesOf, IsViewed};
+ghost use Rattle.bq_experiment.specs.Views.{AreNotesOf, IsUnviewed, IsViewed};
 ghost use Rattle.bq_experiment.specs.declared.asked.ShownAs.TheVariants as shown_as;
 
 use crate::asked::ShownAs;
@@ -230,9 +230,7 @@ fn write_timeline<W: Write, E: Write>(
     policies: &Policies,
     run: &mut RunSink<'_, OffsetViewer, W, E>,
 ) -> Result<String, RunFault>
-    requires schedule { run.old.sink.sink.viewer.schedule ≡ None }
-    requires troubles { run.old.sink.sink.viewer.troubles ≡ 0 }
-    requires over { run.old.is_over ≡ false }
+    requires { IsUnviewed run.old }
     ensures written { IfOk result (λ notes. AreNotesOf policies.now.loaded workload.now run.old.left (string_bytes notes)) }
     ensures writes { OnOk result (failures_of run.new.sink.output ≡ 0) }
     ensures fault { IfErr result (λ e. IsRunFault policies.now.loaded workload.now run.old.left e (failures_of run.new.sink.output)) }
@@ -254,9 +252,7 @@ fn view<W: Write, E: Write>(
     policies: &Policies,
     run: &mut RunSink<'_, OffsetViewer, W, E>,
 ) -> Result<String, SimulateFault>
-    requires schedule { run.old.sink.sink.viewer.schedule ≡ None }
-    requires troubles { run.old.sink.sink.viewer.troubles ≡ 0 }
-    requires over { run.old.is_over ≡ false }
+    requires { IsUnviewed run.old }
     ensures notes { IfOk result (λ notes. AreNotesOf policies.now.loaded workload.now run.old.left (string_bytes notes)) }
     ensures fault { IfErr result (IsNoEnd policies.now.loaded workload.now run.old.left) }
 {
@@ -274,9 +270,7 @@ fn feed_viewer<W: Write, E: Write>(
     policies: &Policies,
     run: &mut RunSink<'_, OffsetViewer, W, E>,
 ) -> Result<(), SimulateFault>
-    requires schedule { run.old.sink.sink.viewer.schedule ≡ None }
-    requires troubles { run.old.sink.sink.viewer.troubles ≡ 0 }
-    requires over { run.old.is_over ≡ false }
+    requires { IsUnviewed run.old }
     ensures viewed { OnOk result (IsViewed policies.now.loaded workload.now run.old.left run.new.sink.sink.viewer) }
     ensures fault { IfErr result (IsNoEnd policies.now.loaded workload.now run.old.left) }
 {

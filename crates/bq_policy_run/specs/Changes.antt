@@ -15,8 +15,8 @@ abbrev pub with_all : Arrays → List (List ℕ) → Arrays
 with_all maps bytes = record maps { bytes = bytes }
 
 -- maps of these shapes, with the bytes that are in these vectors
-abbrev pub with_bytes : Arrays → List (Vec ℕ Global) → Arrays
-with_bytes maps all = with_all maps (map (λ v. v.items) all)
+abbrev pub with_contents : Arrays → List (Vec ℕ Global) → Arrays
+with_contents maps all = with_all maps (map (λ v. v.items) all)
 
 -- the bytes of an entry are other than before
 abbrev pub is_changed : Arrays → Arrays → ℕ → ℕ → Bool

@@ -19,6 +19,30 @@ pub record PersistentState : Type 0 where
 abbrev pub kept_in : Inputs → PersistentState
 kept_in inputs = record { maps = inputs.maps.bytes; counters = inputs.board }
 
+-- of the inputs, only the context may change
+pub record ChangesOnlyContext (old new : Inputs) : Type 0 where
+  pub maps : new.maps ≡ old.maps
+  pub env : new.env ≡ old.env
+  pub board : new.board ≡ old.board
+
+-- of the inputs, only the maps may change
+pub record ChangesOnlyMaps (old new : Inputs) : Type 0 where
+  pub context : new.context ≡ old.context
+  pub env : new.env ≡ old.env
+  pub board : new.board ≡ old.board
+
+-- of the inputs, only the counters may change
+pub record ChangesOnlyCounters (old new : Inputs) : Type 0 where
+  pub context : new.context ≡ old.context
+  pub maps : new.maps ≡ old.maps
+  pub env : new.env ≡ old.env
+
+-- of the inputs, only the bytes of the maps and the counters may change
+pub record ChangesOnlyState (old new : Inputs) : Type 0 where
+  pub shapes : new.maps.shapes ≡ old.maps.shapes
+  pub context : new.context ≡ old.context
+  pub env : new.env ≡ old.env
+
 -- the context has the length of the program's hook and version, and the maps have its shapes
 pub record FitsProgram (program : Accepted) (inputs : Inputs) : Type 0 where
   pub context : length inputs.context.items ≡ context_length_of program.hook program.version
@@ -50,3 +74,7 @@ abbrev pub AreRuns : Accepted → List ℕ → ℕ → ℕ → ℕ → Persisten
 AreRuns program context now processor zero before after = after ≡ before
 AreRuns program context now processor (suc n) before after =
     (between : PersistentState) × AreRuns program context now processor n before between × LeadsFrom program context now processor between after
+
+-- this many runs of the program on the inputs, one after another, leave them so
+abbrev pub AreRunsOn : Accepted → Inputs → ℕ → Inputs → Type 0
+AreRunsOn program old count new = AreRuns program old.context.items old.env.now old.env.processor count (kept_in old) (kept_in new)

@@ -1,7 +1,7 @@
 //! What a run changed of maps and counters, in words.
 ghost use Rattle.std.specs.Prelude.{◌≡◌, ◌+◌, ◌++◌, IfOk, OnOk, map, slice_get, slice_range, string_bytes};
 ghost use Rattle.bq_maps.specs.Arrays.{HasEntry, entries_in, entry_of};
-ghost use Rattle.bq_policy_run.specs.Changes.{call_line, calls_text, changes_text, entry_change, entry_line, map_changes, with_bytes};
+ghost use Rattle.bq_policy_run.specs.Changes.{call_line, calls_text, changes_text, entry_change, entry_line, map_changes, with_contents};
 
 use crate::inputs::Inputs;
 use bq_bpf::CounterCall;
@@ -27,7 +27,7 @@ pub fn write_changes(
     inputs: &Inputs,
     text: &mut String,
 ) -> Result<(), AllocError>
-    ensures { OnOk result (string_bytes text.new ≡ string_bytes text.old ++ changes_text (with_bytes inputs.now.maps before.now) inputs.now.maps) }
+    ensures { OnOk result (string_bytes text.new ≡ string_bytes text.old ++ changes_text (with_contents inputs.now.maps before.now) inputs.now.maps) }
 {
     for number in 0..before.len() {
         write_map(alloc, before, &inputs.maps, number, text)?;
@@ -43,7 +43,7 @@ fn write_map(
     number: usize,
     text: &mut String,
 ) -> Result<(), AllocError>
-    ensures { OnOk result (string_bytes text.new ≡ string_bytes text.old ++ map_changes (with_bytes maps.now before.now) maps.now number) }
+    ensures { OnOk result (string_bytes text.new ≡ string_bytes text.old ++ map_changes (with_contents maps.now before.now) maps.now number) }
 {
     for entry in 0..entries(maps, number) {
         write_change(alloc, before, maps, number, entry, text)?;
@@ -71,7 +71,7 @@ fn write_change(
     text: &mut String,
 ) -> Result<(), AllocError>
     requires { HasEntry maps.now number entry }
-    ensures { OnOk result (string_bytes text.new ≡ string_bytes text.old ++ entry_change (with_bytes maps.now before.now) maps.now number entry) }
+    ensures { OnOk result (string_bytes text.new ≡ string_bytes text.old ++ entry_change (with_contents maps.now before.now) maps.now number entry) }
 {
     let bytes = maps.entry(number, entry);
     if entry_before(before, maps, number, entry) == bytes {
@@ -83,7 +83,7 @@ fn write_change(
 /// The bytes that an entry had before, as far as the bytes of its map are there.
 fn entry_before<'a>(before: &'a [Vec<u8>], maps: &Maps, number: usize, entry: u32) -> &'a [u8]
     requires { HasEntry maps.now number entry }
-    ensures { result.now ≡ entry_of (with_bytes maps.now before.now) number entry }
+    ensures { result.now ≡ entry_of (with_contents maps.now before.now) number entry }
 {
     let size = usize::from(maps.shape(number).value_size);
     match before.get(number) {

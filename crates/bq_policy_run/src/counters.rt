@@ -3,6 +3,7 @@ ghost use Rattle.std.specs.Prelude.{◌≡◌, ◌<◌, ◌^◌, ℕ, [], IfErr,
 ghost use Rattle.std.specs.Result.{OnErr, OnOk};
 ghost use Rattle.bq_console.specs.Words.{GivesNone};
 ghost use Rattle.bq_policy_run.specs.Naming.{NamesCounter, SetsCounter, TextsInTurn};
+ghost use Rattle.bq_policy_run.specs.Runs.{ChangesOnlyCounters};
 
 use crate::faults::refused;
 use crate::inputs::Inputs;
@@ -18,9 +19,7 @@ impl Inputs {
     pub fn set_all_counters(&mut self, alloc: Global, texts: &[String]) -> Result<(), WordsFault>
         ensures board { OnOk result (TextsInTurn SetsCounter texts.now self.old.board self.new.board) }
         ensures refused { IfErr result (GivesNone (TextsInTurn SetsCounter texts.now self.old.board)) }
-        ensures context { self.new.context ≡ self.old.context }
-        ensures maps { self.new.maps ≡ self.old.maps }
-        ensures env { self.new.env ≡ self.old.env }
+        ensures others { ChangesOnlyCounters self.old self.new }
         ensures none { texts.now ≡ [] → IsOk result }
     {
         for text in texts {
@@ -34,9 +33,7 @@ impl Inputs {
         ensures board { OnOk result (SetsCounter text.now self.old.board self.new.board) }
         ensures refused { IfErr result (GivesNone (SetsCounter text.now self.old.board)) }
         ensures left { OnErr result (self.new ≡ self.old) }
-        ensures context { self.new.context ≡ self.old.context }
-        ensures maps { self.new.maps ≡ self.old.maps }
-        ensures env { self.new.env ≡ self.old.env }
+        ensures others { ChangesOnlyCounters self.old self.new }
     {
         let Some((number, word)) = counter_named(text) else {
             return Err(refused(alloc, "counter", text, flaw_of(text)));

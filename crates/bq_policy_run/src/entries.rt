@@ -3,6 +3,7 @@ ghost use Rattle.std.specs.Prelude.{◌≡◌, ◌<◌, ◌^◌, ℕ, [], IfErr,
 ghost use Rattle.std.specs.Result.{OnErr, OnOk};
 ghost use Rattle.bq_console.specs.Words.{GivesNone};
 ghost use Rattle.bq_policy_run.specs.Naming.{NamesMapEntry, SetsEntry, TextsInTurn, padded};
+ghost use Rattle.bq_policy_run.specs.Runs.{ChangesOnlyMaps};
 
 use crate::faults::refused;
 use crate::inputs::{Inputs, bytes_named};
@@ -17,9 +18,7 @@ impl Inputs {
     pub fn set_all_entries(&mut self, alloc: Global, texts: &[String]) -> Result<(), WordsFault>
         ensures maps { OnOk result (TextsInTurn SetsEntry texts.now self.old.maps self.new.maps) }
         ensures refused { IfErr result (GivesNone (TextsInTurn SetsEntry texts.now self.old.maps)) }
-        ensures context { self.new.context ≡ self.old.context }
-        ensures env { self.new.env ≡ self.old.env }
-        ensures board { self.new.board ≡ self.old.board }
+        ensures others { ChangesOnlyMaps self.old self.new }
         ensures none { texts.now ≡ [] → IsOk result }
     {
         for text in texts {
@@ -34,9 +33,7 @@ impl Inputs {
         ensures maps { OnOk result (SetsEntry text.now self.old.maps self.new.maps) }
         ensures refused { IfErr result (GivesNone (SetsEntry text.now self.old.maps)) }
         ensures left { OnErr result (self.new ≡ self.old) }
-        ensures context { self.new.context ≡ self.old.context }
-        ensures env { self.new.env ≡ self.old.env }
-        ensures board { self.new.board ≡ self.old.board }
+        ensures others { ChangesOnlyMaps self.old self.new }
     {
         put_entry(&mut self.maps, alloc, text)
     }

@@ -3,6 +3,7 @@ ghost use Rattle.std.specs.Prelude.{◌≡◌, ◌<◌, ◌↔◌, ◌^◌, ℕ,
 ghost use Rattle.std.specs.Result.{OnOk};
 ghost use Rattle.bq_console.specs.Words.{GivesNone};
 ghost use Rattle.bq_policy_run.specs.Naming.{IsFieldWord, SetsField, SetsFields, TextsInTurn, shows_nobody};
+ghost use Rattle.bq_policy_run.specs.Runs.{ChangesOnlyContext};
 
 use crate::faults::refused;
 use crate::fields::{Field, field_named, field_names, put};
@@ -25,9 +26,7 @@ impl Inputs {
     ) -> Result<(), WordsFault>
         ensures context { OnOk result (TextsInTurn (SetsFields hook version) texts.now self.old.context.items self.new.context.items) }
         ensures refused { IfErr result (GivesNone (TextsInTurn (SetsFields hook version) texts.now self.old.context.items)) }
-        ensures maps { self.new.maps ≡ self.old.maps }
-        ensures env { self.new.env ≡ self.old.env }
-        ensures board { self.new.board ≡ self.old.board }
+        ensures others { ChangesOnlyContext self.old self.new }
         ensures none { texts.now ≡ [] → IsOk result }
     {
         for text in texts {
@@ -47,9 +46,7 @@ impl Inputs {
     ) -> Result<(), WordsFault>
         ensures context { OnOk result (SetsFields hook version text.now self.old.context.items self.new.context.items) }
         ensures refused { IfErr result (GivesNone (SetsFields hook version text.now self.old.context.items)) }
-        ensures maps { self.new.maps ≡ self.old.maps }
-        ensures env { self.new.env ≡ self.old.env }
-        ensures board { self.new.board ≡ self.old.board }
+        ensures others { ChangesOnlyContext self.old self.new }
     {
         for part in text.split(',') {
             self.set_field(alloc, hook, version, part)?;
@@ -67,9 +64,7 @@ impl Inputs {
     ) -> Result<(), WordsFault>
         ensures context { OnOk result (SetsField hook version part.now self.old.context.items self.new.context.items) }
         ensures refused { IfErr result (GivesNone (SetsField hook version part.now self.old.context.items)) }
-        ensures maps { self.new.maps ≡ self.old.maps }
-        ensures env { self.new.env ≡ self.old.env }
-        ensures board { self.new.board ≡ self.old.board }
+        ensures others { ChangesOnlyContext self.old self.new }
     {
         put_field(self.context.as_mut_slice(), alloc, hook, version, part)
     }

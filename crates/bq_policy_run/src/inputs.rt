@@ -6,6 +6,7 @@ ghost use Rattle.bq_hooks.specs.Hooks.{context_length_of};
 ghost use Rattle.bq_bpf.specs.declared.board.TheConstants.{COUNTERS};
 ghost use Rattle.bq_console.specs.Words.{GivesNone};
 ghost use Rattle.bq_policy_run.specs.Naming.{AreZeroMaps, IsContextNamed};
+ghost use Rattle.bq_policy_run.specs.Runs.{ChangesOnlyContext};
 
 use crate::faults::refused;
 use bq_bpf::{Env, Plain};
@@ -53,9 +54,7 @@ impl Inputs {
         ensures context { OnOk result (IsContextNamed (Some text.now) (length self.old.context.items) self.new.context.items) }
         ensures refused { IfErr result (GivesNone (IsContextNamed (Some text.now) (length self.old.context.items))) }
         ensures left { OnErr result (self.new ≡ self.old) }
-        ensures maps { self.new.maps ≡ self.old.maps }
-        ensures env { self.new.env ≡ self.old.env }
-        ensures board { self.new.board ≡ self.old.board }
+        ensures others { ChangesOnlyContext self.old self.new }
     {
         let Some(bytes) = bytes_named(alloc, text)? else {
             return Err(refused(alloc, "ctx", text, "a context is hex, two digits a byte"));

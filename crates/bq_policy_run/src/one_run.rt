@@ -3,7 +3,7 @@ ghost use Rattle.std.specs.Prelude.{◌≡◌, ◌<◌, ◌↔◌, [], length, I
 ghost use Rattle.bq_hooks.specs.Hooks.{context_length_of};
 ghost use Rattle.bq_interp.specs.Snapshots.{AreSnapshots};
 ghost use Rattle.bq_bpf.specs.Runs.{start};
-ghost use Rattle.bq_policy_run.specs.Runs.{AreRuns, FitsProgram, IsRunOn, kept_in, setting_on};
+ghost use Rattle.bq_policy_run.specs.Runs.{AreRunsOn, ChangesOnlyState, FitsProgram, IsRunOn, setting_on};
 
 use crate::inputs::Inputs;
 use bq_bpf::same_shapes;
@@ -27,9 +27,7 @@ pub fn run_once(verified: &Verified, inputs: &mut Inputs) -> Option<Ran>
     ensures fits { IfSome result (λ _. FitsProgram verified.now inputs.old) }
     ensures none { IfNone result (¬ FitsProgram verified.now inputs.old) }
     ensures left { IfNone result (inputs.new ≡ inputs.old) }
-    ensures shapes { inputs.new.maps.shapes ≡ inputs.old.maps.shapes }
-    ensures context { inputs.new.context ≡ inputs.old.context }
-    ensures env { inputs.new.env ≡ inputs.old.env }
+    ensures others { ChangesOnlyState inputs.old inputs.new }
 {
     if !fits(verified, inputs) {
         return None;
@@ -48,13 +46,11 @@ pub fn run_once(verified: &Verified, inputs: &mut Inputs) -> Option<Ran>
 /// Runs the program this many times; each run begins with the maps and counters that the one before it left. None if `run_once`
 /// answers None; then nothing changes.
 pub fn run_often(verified: &Verified, inputs: &mut Inputs, count: u32) -> Option<()>
-    ensures runs { IfSome result (λ _. AreRuns verified.now inputs.old.context.items inputs.old.env.now inputs.old.env.processor count (kept_in inputs.old) (kept_in inputs.new)) }
+    ensures runs { IfSome result (λ _. AreRunsOn verified.now inputs.old count inputs.new) }
     ensures fits { IfSome result (λ _. 0 < count → FitsProgram verified.now inputs.old) }
     ensures none { IfNone result ((0 < count) × ¬ FitsProgram verified.now inputs.old) }
     ensures left { IfNone result (inputs.new ≡ inputs.old) }
-    ensures shapes { inputs.new.maps.shapes ≡ inputs.old.maps.shapes }
-    ensures context { inputs.new.context ≡ inputs.old.context }
-    ensures env { inputs.new.env ≡ inputs.old.env }
+    ensures others { ChangesOnlyState inputs.old inputs.new }
 {
     let mut done: u32 = 0;
     while done < count {

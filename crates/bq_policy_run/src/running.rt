@@ -1,7 +1,7 @@
 //! `run` of a policy's file.
 ghost use Rattle.std.specs.Prelude.{◌≡◌, ◌++◌, [], IfOk, IsNone, is_some, length, string_bytes};
 ghost use Rattle.bq_hooks.specs.Hooks.{context_length_of};
-ghost use Rattle.bq_policy_run.specs.Changes.{calls_text, changes_text, with_bytes};
+ghost use Rattle.bq_policy_run.specs.Changes.{calls_text, changes_text, with_contents};
 ghost use Rattle.bq_policy_run.specs.Runs.{FitsProgram};
 ghost use Rattle.bq_policy_run.specs.Running.{HasRun, RunsFile, RunsPolicy, RunsProgram, RunsTo, ReportsRun, BeginsWithVerdict, answer_line};
 
@@ -170,7 +170,7 @@ fn changed_text(
     inputs: &Inputs,
     ran: &Ran,
 ) -> Result<String, AllocError>
-    ensures { IfOk result (λ text. string_bytes text ≡ changes_text (with_bytes inputs.now.maps first.now) inputs.now.maps ++ calls_text ran.now.calls.items) }
+    ensures { IfOk result (λ text. string_bytes text ≡ changes_text (with_contents inputs.now.maps first.now) inputs.now.maps ++ calls_text ran.now.calls.items) }
 {
     let mut changes = String::new(alloc);
     write_changes(alloc, first, inputs, &mut changes)?;

@@ -16,7 +16,7 @@ returns-in_err-set_all_fields-clause-refused c =
 pub returns-in_err-set_all_entries-clause-refused : goal.returns-in_err-set_all_entries-clause-refused
 returns-in_err-set_all_entries-clause-refused c =
     let error = err_from_is_err_and c.from_residual-in_err-set_all_entries.result c.from_residual-in_err-set_all_entries.ensures.1 in
-    let none = rw (c.as_slice-2.ensures.value, c.in_ok-set_all_fields.ensures.maps) at c.in_err-set_all_entries.ensures.refused in
+    let none = rw (c.as_slice-2.ensures.value, c.in_ok-set_all_fields.ensures.others.maps) at c.in_err-set_all_entries.ensures.refused in
     rw (error.1, error.2) (none_of_part (TextsInTurn SetsEntry c.args.words.now.entries.items c.args.inputs.now.maps)
     (SetsParts c.args.words.now c.args.verified.now c.args.inputs.now) c.in_err-set_all_entries.field-0.0
     (λ after parts. (after.maps, parts.entries)) none)
@@ -25,7 +25,7 @@ pub returns-in_err-set_all_counters-clause-refused : goal.returns-in_err-set_all
 returns-in_err-set_all_counters-clause-refused c =
     let error = err_from_is_err_and c.from_residual-in_err-set_all_counters.result c.from_residual-in_err-set_all_counters.ensures.1 in
     let none =
-    rw (c.as_slice-3.ensures.value, c.in_ok-set_all_entries.ensures.board, c.in_ok-set_all_fields.ensures.board) at
+    rw (c.as_slice-3.ensures.value, c.in_ok-set_all_entries.ensures.others.board, c.in_ok-set_all_fields.ensures.others.board) at
     c.in_err-set_all_counters.ensures.refused in
     rw (error.1, error.2) (none_of_part (TextsInTurn SetsCounter c.args.words.now.counters.items c.args.inputs.now.board)
     (SetsParts c.args.words.now c.args.verified.now c.args.inputs.now) c.in_err-set_all_counters.field-0.0

@@ -1,12 +1,11 @@
 use Rattle.std.proofs.Common.{◌≡◌, ◌<◌, ◌≤◌, ◌-◌}
-use Rattle.bq_policy_run.specs.Runs.{AreRuns, FitsProgram, kept_in}
+use Rattle.bq_policy_run.specs.Runs.{AreRunsOn, FitsProgram}
 use Rattle.bq_policy_run.proofs.one_run.run_often.Given as goal
 
 abbrev pub invariant-loop-done : goal.invariant-loop-done
 invariant-loop-done l = record {
   within : l.done ≤ l.count;
-  runs : AreRuns l.verified l.initial.inputs.context.items l.initial.inputs.env.now l.initial.inputs.env.processor l.done
-      (kept_in l.initial.inputs) (kept_in l.inputs);
+  runs : AreRunsOn l.verified l.initial.inputs l.done l.inputs;
   left : l.done ≡ 0 → l.inputs ≡ l.initial.inputs;
   fits : 0 < l.done → FitsProgram l.verified l.initial.inputs;
   shapes : l.inputs.maps.shapes ≡ l.initial.inputs.maps.shapes;

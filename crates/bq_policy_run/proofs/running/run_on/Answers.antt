@@ -21,7 +21,7 @@ returns c =
     subst (λ (ms : List Snapshot).
     ReportsSteps c.args.words.now.report.is_traced c.args.verified.now ms (string_bytes c.in_ok-executed.executed))
     c.as_slice.ensures.value c.in_ok-executed.ensures in
-    let shapes = c.in_ok-last.ensures.shapes ∙ c.run_often-others.ensures.shapes in
+    let shapes = c.in_ok-last.ensures.shapes ∙ c.run_often-others.ensures.others.shapes in
     let first = ap (λ (all : List (Vec ℕ Global)). map (λ v. v.items) all) c.as_slice-2.ensures.value ∙ c.in_ok-first.ensures in
     let changed : string_bytes c.in_ok-changes.changes
     ≡ changed_text c.args.series.now.inputs.maps c.trace_once.new.inputs.maps.bytes c.in-Some-Some.ran.calls.items =
@@ -43,7 +43,7 @@ returns c =
     c.args.series.now.before c.args.verified.now c.args.series.now.inputs c.run_often-others.new.inputs
     c.trace_once.new.snapshots.items c.in-Some-Some.ran.steps c.in-Some-Some.ran.r0 c.in-Some-Some.ran.calls.items
     (kept_in c.trace_once.new.inputs) c.in_ok-text.text (string_bytes c.in_ok-executed.executed)
-    (string_bytes c.args.line.now) runs c.run_often-others.ensures.context c.run_often-others.ensures.env run snapshots each
+    (string_bytes c.args.line.now) runs c.run_often-others.ensures.others.context c.run_often-others.ensures.others.env run snapshots each
     executed c.requires.untimed reported_exactly
 
 pub reported-requires : goal.reported-requires

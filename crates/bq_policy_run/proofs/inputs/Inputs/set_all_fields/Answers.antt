@@ -23,10 +23,10 @@ loop-text-preserved c =
       made =
           turn_more (λ (t : String Global). SetsFields hook version (string_bytes t)) texts i item
           c.args.self.now.context.items now next c.loop-text-test.true made c.loop-text.invariant.made;
-      env = c.set_fields.ensures.env ∙ c.loop-text.invariant.env;
+      env = c.set_fields.ensures.others.env ∙ c.loop-text.invariant.env;
       size = (fields_seen hook version).keeps c.as_str.result.now now next c.in_ok-set_fields.ensures.context ∙ c.loop-text.invariant.size;
-      maps = c.set_fields.ensures.maps ∙ c.loop-text.invariant.maps;
-      board = c.set_fields.ensures.board ∙ c.loop-text.invariant.board;
+      maps = c.set_fields.ensures.others.maps ∙ c.loop-text.invariant.maps;
+      board = c.set_fields.ensures.others.board ∙ c.loop-text.invariant.board;
     }
 
 pub returns-in_err-set_fields-clause-refused : goal.returns-in_err-set_fields-clause-refused

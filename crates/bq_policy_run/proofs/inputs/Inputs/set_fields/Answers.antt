@@ -27,9 +27,9 @@ loop-part-preserved c =
     record {
       made = subst (λ (k : ℕ). LeadsOn step words k first next) (sym (length-append yielded (c.in-Some.part ∷ []))) more;
       size = (field_seen c.args.hook c.args.version).keeps _ _ _ c.in_ok-set_field.ensures.context ∙ c.loop-part.invariant.size;
-      maps = c.set_field.ensures.maps ∙ c.loop-part.invariant.maps;
-      env = c.set_field.ensures.env ∙ c.loop-part.invariant.env;
-      board = c.set_field.ensures.board ∙ c.loop-part.invariant.board;
+      maps = c.set_field.ensures.others.maps ∙ c.loop-part.invariant.maps;
+      env = c.set_field.ensures.others.env ∙ c.loop-part.invariant.env;
+      board = c.set_field.ensures.others.board ∙ c.loop-part.invariant.board;
     }
 
 pub returns-clause-context : goal.returns-clause-context
