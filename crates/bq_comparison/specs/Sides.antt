@@ -7,7 +7,7 @@ use Rattle.bq_workload.specs.declared.workload.Workload.{Workload}
 use Rattle.bq_comparison.specs.declared.all.MachineSize.{MachineSize}
 use Rattle.bq_comparison.specs.Report.{figures_of_report}
 use Rattle.bq_simulate.specs.Simulations.{Accepted}
-use Rattle.bq_experiment.specs.Standing.{Standing}
+use Rattle.bq_experiment.specs.PoliciesAndImages.{PoliciesAndImages}
 use Rattle.bq_comparison.specs.Pairs.{ArePairedRows}
 use Rattle.bq_comparison.specs.declared.naming.Figure.{Figure}
 use Rattle.bq_comparison.specs.declared.runs.RunFigures.{RunFigures}
@@ -20,7 +20,7 @@ abbrev pub size_of_machine : Workload → MachineSize
 size_of_machine w = record { tasks = min (sum_by (λ kind. kind.count) w.tasks.items) 65535; processors = processors_in w.machine.size }
 
 -- the policies of the other side, if there is one
-abbrev pub other_policies : Option (Bor Standing) → Option (List Accepted)
+abbrev pub other_policies : Option (Bor PoliciesAndImages) → Option (List Accepted)
 other_policies others = option_map (λ p. p.now.loaded) others
 
 -- what this many runs with these policies say of each figure, and what they and our runs say of its difference

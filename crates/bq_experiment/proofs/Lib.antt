@@ -1,7 +1,7 @@
 pub mod LimitLemmas
 pub mod NameLemmas
 pub mod PassingLemmas
-pub mod StandingLemmas
+pub mod PolicyImageLemmas
 pub mod TakingLemmas
 pub mod TraceLemmas
 pub mod ViewLemmas

@@ -10,7 +10,7 @@ use Rattle.bq_policy_file.specs.declared.head.Head.{Head}
 use Rattle.bq_policy_file.specs.declared.kind.FileKind.{FileKind}
 use Rattle.bq_policy_file.specs.declared.kind.FileKind.TheVariants as kind
 use Rattle.bq_policy_file.specs.declared.policy_source.PolicySource.{PolicySource}
-use Rattle.bq_experiment.specs.Standing.{Standing}
+use Rattle.bq_experiment.specs.PoliciesAndImages.{PoliciesAndImages}
 use Rattle.bq_experiment.specs.Taking.{AsksForHook, IsFileRefusal, IsRead, IsAttachFault, IsFaultOfFile, IsFaultOfImage, Attaches}
 use Rattle.bq_experiment.specs.declared.policies.AttachFault.{AttachFault}
 use Rattle.bq_experiment.specs.declared.policies.AttachFault.TheVariants as attach
@@ -36,7 +36,7 @@ hook_read : (file : List ℕ) (asked : Head) (policy : PolicySource) (hook : Hoo
 hook_read file asked policy hook is h = of_kind (kind_of file) file asked policy hook is h
 
 -- it is taken as what was asked for
-taken : (hook : Option Hook) (asked : Head) (file : List ℕ) (at : Hook) (old new : Standing)
+taken : (hook : Option Hook) (asked : Head) (file : List ℕ) (at : Hook) (old new : PoliciesAndImages)
     → Attaches (IsPolicy file asked) at old new → AsksForHook hook asked → Attaches (IsRead hook file) at old new
 taken hook asked file at old new t asks = record {
   read = t.read;
@@ -51,14 +51,14 @@ taken hook asked file at old new t asks = record {
 }
 
 -- where no hook is asked for, it is taken at the hook that the file says
-pub takes_by_head : (result : Result (Unit {0}) AttachFault) (asked : Head) (file : List ℕ) (old new : Standing)
+pub takes_by_head : (result : Result (Unit {0}) AttachFault) (asked : Head) (file : List ℕ) (old new : PoliciesAndImages)
     → OnOk result ((at : Hook) × Attaches (IsPolicy file asked) at old new) → AsksForHook None asked
     → OnOk result ((at : Hook) × Attaches (IsRead None file) at old new)
 takes_by_head (Ok x) asked file old new (at, t) asks = (at, taken None asked file at old new t asks)
 takes_by_head (Err e) asked file old new t asks = tt
 
 -- where a hook is asked for, it is taken at that hook
-pub takes_at : (result : Result (Unit {0}) AttachFault) (hook : Hook) (asked : Head) (file : List ℕ) (old new : Standing)
+pub takes_at : (result : Result (Unit {0}) AttachFault) (hook : Hook) (asked : Head) (file : List ℕ) (old new : PoliciesAndImages)
     → OnOk result ((at : Hook) × Attaches (IsPolicy file asked) at old new) → AsksForHook (Some hook) asked
     → OnOk result (Attaches (IsRead (Some hook) file) hook old new)
 takes_at (Ok x) hook asked file old new (at, t) asks =
@@ -67,7 +67,7 @@ takes_at (Ok x) hook asked file old new (at, t) asks =
 takes_at (Err e) hook asked file old new t asks = tt
 
 -- why what was asked for is not taken is why the file is not taken
-fault_reported : (hook : Option Hook) (asked : Head) (file : List ℕ) (old : Standing) (fault : AttachFault)
+fault_reported : (hook : Option Hook) (asked : Head) (file : List ℕ) (old : PoliciesAndImages) (fault : AttachFault)
     → IsAttachFault (IsPolicy file asked) (IsPolicyFault file asked) old fault → AsksForHook hook asked
     → IsAttachFault (IsRead hook file) (IsFileRefusal hook file) old fault
 fault_reported hook asked file old attach.Twice (read, reads, there) asks = (read, (asked, asks, reads), there)
@@ -79,14 +79,14 @@ fault_reported hook asked file old attach.OutOfMemory t asks = tt
 
 -- why a file is not taken is so by what was asked for
 pub reported_of : (result : Result (Unit {0}) AttachFault) (hook : Option Hook) (asked : Head)
-    (file : List ℕ) (old : Standing)
+    (file : List ℕ) (old : PoliciesAndImages)
     → IfErr result (IsAttachFault (IsPolicy file asked) (IsPolicyFault file asked) old) → AsksForHook hook asked
     → IfErr result (IsAttachFault (IsRead hook file) (IsFileRefusal hook file) old)
 reported_of (Ok x) hook asked file old t asks = tt
 reported_of (Err e) hook asked file old t asks = fault_reported hook asked file old e t asks
 
 -- what is reported of a refused file is why it is not taken
-pub none_reported : (Reads : PolicySource → Type 0) (Refuses : FileFault → Type 0) (s : Standing)
+pub none_reported : (Reads : PolicySource → Type 0) (Refuses : FileFault → Type 0) (s : PoliciesAndImages)
     (named : FileFault) (fault : AttachFault)
     → Refuses named → IsFaultOfFile named fault → IsAttachFault Reads Refuses s fault
 none_reported Reads Refuses s (Disagrees key) fault refused is = subst (IsAttachFault Reads Refuses s) (sym is) (key, refused)
@@ -95,7 +95,7 @@ none_reported Reads Refuses s named attach.OutOfMemory refused is = tt
 none_reported Reads Refuses s named fault refused is = absurd is
 
 -- what is reported of an image that is not loaded is why it is not taken
-pub image_reported : (Reads : PolicySource → Type 0) (Refuses : FileFault → Type 0) (s : Standing)
+pub image_reported : (Reads : PolicySource → Type 0) (Refuses : FileFault → Type 0) (s : PoliciesAndImages)
     (read : PolicySource) (image : List ℕ) (fault : AttachFault)
     → Reads read → IsImage image read.form.version read.form.hook read.form.shapes.items (spelling read.insns.items)
     → IsFaultOfImage image fault
@@ -106,7 +106,7 @@ image_reported Reads Refuses s read image attach.OutOfMemory reads spells is = t
 image_reported Reads Refuses s read image fault reads spells is = absurd is
 
 -- lack of memory is reported as why a file is not taken
-pub memory_reported : (Reads : PolicySource → Type 0) (Refuses : FileFault → Type 0) (s : Standing)
+pub memory_reported : (Reads : PolicySource → Type 0) (Refuses : FileFault → Type 0) (s : PoliciesAndImages)
     (result : Result (Unit {0}) AttachFault)
     → IfErr result (λ fault. fault ≡ attach.OutOfMemory) → IfErr result (IsAttachFault Reads Refuses s)
 memory_reported Reads Refuses s (Ok x) is = tt

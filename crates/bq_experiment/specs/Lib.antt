@@ -3,7 +3,7 @@ pub mod Faults
 pub mod Limits
 pub mod Names
 pub mod Passing
-pub mod Standing
+pub mod PoliciesAndImages
 pub mod Taking
 pub mod Traces
 pub mod Views

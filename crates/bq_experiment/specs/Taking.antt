@@ -14,7 +14,7 @@ use Rattle.bq_policy_file.specs.declared.head.Head.{Head}
 use Rattle.bq_policy_file.specs.declared.mark.Key.{Key}
 use Rattle.bq_policy_file.specs.declared.policy_source.PolicySource.{PolicySource}
 use Rattle.bq_simulate.specs.Replays.{IsLoadedFromImage}
-use Rattle.bq_experiment.specs.Standing.{AddsPolicy, Standing, image_for}
+use Rattle.bq_experiment.specs.PoliciesAndImages.{AddsPolicy, PoliciesAndImages, image_for}
 use Rattle.bq_experiment.specs.declared.policies.AttachFault.{AttachFault}
 use Rattle.bq_experiment.specs.declared.policies.AttachFault.TheVariants as attach
 use Rattle.bq_simulate.specs.Simulations.{Accepted}
@@ -30,7 +30,7 @@ abbrev pub IsRead : Option Hook → List ℕ → PolicySource → Type 0
 IsRead hook file policy = (asked : Head) × AsksForHook hook asked × IsPolicy file asked policy
 
 -- A policy that was read so is taken at this hook, at which no image was: its image is added, and what is loaded of it.
-pub record Attaches (Reads : PolicySource → Type 0) (hook : Hook) (old new : Standing) : Type 0 where
+pub record Attaches (Reads : PolicySource → Type 0) (hook : Hook) (old new : PoliciesAndImages) : Type 0 where
   pub read : PolicySource
   pub reads : Reads read
   pub hook_is : read.form.hook ≡ hook
@@ -42,7 +42,7 @@ pub record Attaches (Reads : PolicySource → Type 0) (hook : Hook) (old new : S
   pub adds : AddsPolicy hook image policy old new
 
 -- a policy that was read so is for a hook at which an image was
-abbrev pub IsSecondForHook : (PolicySource → Type 0) → Standing → Type 0
+abbrev pub IsSecondForHook : (PolicySource → Type 0) → PoliciesAndImages → Type 0
 IsSecondForHook Reads s = (read : PolicySource) × Reads read × IsSome (image_for s.images read.form.hook)
 
 -- a file is refused for this fault, for the hook that is asked for, if any
@@ -60,7 +60,7 @@ pub record IsPolicyUnaccepted (Reads : PolicySource → Type 0) (named : LoadFau
 
 -- Why a file is not taken: its hook has an image already, it disagrees with what was asked for, its words are no policy, or its
 -- program is not accepted. If memory runs out, the file may be anything.
-abbrev pub IsAttachFault : (PolicySource → Type 0) → (FileFault → Type 0) → Standing → AttachFault → Type 0
+abbrev pub IsAttachFault : (PolicySource → Type 0) → (FileFault → Type 0) → PoliciesAndImages → AttachFault → Type 0
 IsAttachFault Reads Refuses s attach.Twice = IsSecondForHook Reads s
 IsAttachFault Reads Refuses s attach.Hook = (key : Key) × Refuses (Disagrees key)
 IsAttachFault Reads Refuses s (attach.File words) = (named : FileFault) × Refuses named × (named ≢ file.OutOfMemory)

@@ -11,7 +11,7 @@ use Rattle.bq_experiment.specs.declared.asked.ShownAs.{ShownAs}
 use Rattle.bq_experiment.specs.declared.asked.ShownAs.TheVariants.{Trace, Timeline}
 use Rattle.bq_experiment.specs.declared.policies.Policies.{Policies}
 use Rattle.bq_experiment.specs.Limits.{events_in}
-use Rattle.bq_experiment.specs.Standing.{image_for}
+use Rattle.bq_experiment.specs.PoliciesAndImages.{image_for}
 use Rattle.bq_experiment.specs.Views.{AreNotesOf}
 use Rattle.bq_trace.specs.Feeding.{with_feeds}
 use Rattle.bq_trace.specs.TraceEvents.{TraceEvent, Reported, Skipped, texts}

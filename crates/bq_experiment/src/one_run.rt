@@ -9,7 +9,7 @@ ghost use Rattle.bq_simulate.specs.declared.fault.SimulateFault.TheVariants as w
 ghost use Rattle.bq_trace.specs.TraceEvents.{Gets};
 ghost use Rattle.bq_workload.specs.Soundness.{first_flaw};
 ghost use Rattle.bq_experiment.specs.Faults.{IsNoEnd, IsRunFault, IsRunStopped};
-ghost use Rattle.bq_experiment.specs.Standing.{AreOfTheirImages, image_for};
+ghost use Rattle.bq_experiment.specs.PoliciesAndImages.{AreOfTheirImages, image_for};
 ghost use Rattle.bq_experiment.specs.Traces.{IsNamed, IsWritten, WritesTrace};
 ghost use Rattle.bq_experiment.specs.Views.{AreNotesOf, IsUnviewed, IsViewed};
 ghost use Rattle.bq_experiment.specs.declared.asked.ShownAs.TheVariants as shown_as;

@@ -5,7 +5,7 @@ ghost use Rattle.std.specs.Option.{option_map};
 ghost use Rattle.bq_policy_file.specs.Files.{IsPolicy, IsPolicyFault};
 ghost use Rattle.bq_simulate.specs.Replays.{IsLoadedFromImage};
 ghost use Rattle.bq_simulate.specs.Texts.{image_at};
-ghost use Rattle.bq_experiment.specs.Standing.{AddsPolicy, AreOfTheirImages, image_for};
+ghost use Rattle.bq_experiment.specs.PoliciesAndImages.{AddsPolicy, AreOfTheirImages, image_for};
 ghost use Rattle.bq_experiment.specs.Taking.{IsFileRefusal, IsRead, IsAttachFault, IsFaultOfFile, IsFaultOfImage, Attaches};
 
 use bq_hooks::Hook;
@@ -43,13 +43,13 @@ pub struct Policies {
 }
 
 impl Model for Policies {
-    ghost use Rattle.bq_experiment.specs.Standing.{AreOfTheirImages, Standing, standing};
+    ghost use Rattle.bq_experiment.specs.PoliciesAndImages.{AreOfTheirImages, PoliciesAndImages, with_images};
 
-    ghost Value = { Standing };
+    ghost Value = { PoliciesAndImages };
 
-    ghost view = { λ p. standing p.loaded.items p.images.items };
+    ghost view = { λ p. with_images p.loaded.items p.images.items };
 
-    ghost invariant = { λ p. AreOfTheirImages (standing p.loaded.items p.images.items) };
+    ghost invariant = { λ p. AreOfTheirImages (with_images p.loaded.items p.images.items) };
 }
 
 impl Policies {
@@ -72,8 +72,8 @@ impl Policies {
         self.loaded.as_slice()
     }
 
-    /// Takes the policy for this hook that a file holds: an image, the hex of one, or an assembler text. Marks at the head of a
-    /// text say its maps and its format. A second policy for a hook is refused. If the policy is not taken, all is as it was.
+    /// Adds the policy for this hook that a file holds: an image, the hex of one, or an assembler text. Marks at the head of a
+    /// text say its maps and its format. A second policy for a hook is refused. If the policy is not added, all is as it was.
     pub fn add(&mut self, alloc: Global, hook: Hook, file: &[u8]) -> Result<(), AttachFault>
         ensures taken { OnOk result (Attaches (IsRead (Some hook) file.now) hook self.old self.new) }
         ensures refused { OnErr result (self.new ≡ self.old) }
@@ -81,20 +81,20 @@ impl Policies {
     {
         let mut asked = Head::nothing();
         asked.hook = Some(hook);
-        self.take(alloc, &asked, file)
+        self.add_asked(alloc, &asked, file)
     }
 
-    /// Takes the policy that a file holds, as `add` does, for the hook that the file says.
+    /// Adds the policy that a file holds, as `add` does, for the hook that the file says.
     pub fn add_by_head(&mut self, alloc: Global, file: &[u8]) -> Result<(), AttachFault>
         ensures taken { OnOk result ((hook : Hook) × Attaches (IsRead None file.now) hook self.old self.new) }
         ensures refused { OnErr result (self.new ≡ self.old) }
         ensures reported { IfErr result (IsAttachFault (IsRead None file.now) (IsFileRefusal None file.now) self.old) }
     {
-        self.take(alloc, &Head::nothing(), file)
+        self.add_asked(alloc, &Head::nothing(), file)
     }
 
-    /// Takes the policy of a file that agrees with what was asked for.
-    fn take(&mut self, alloc: Global, asked: &Head, file: &[u8]) -> Result<(), AttachFault>
+    /// Adds the policy of a file that agrees with what was asked for.
+    fn add_asked(&mut self, alloc: Global, asked: &Head, file: &[u8]) -> Result<(), AttachFault>
         ensures taken { OnOk result ((hook : Hook) × Attaches (IsPolicy file.now asked.now) hook self.old self.new) }
         ensures refused { OnErr result (self.new ≡ self.old) }
         ensures reported { IfErr result (IsAttachFault (IsPolicy file.now asked.now) (IsPolicyFault file.now asked.now) self.old) }

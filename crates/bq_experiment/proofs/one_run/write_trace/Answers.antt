@@ -4,7 +4,7 @@ use Rattle.bq_simulate.specs.declared.fault.SimulateFault.TheVariants.{Enough}
 use Rattle.bq_streams.specs.Counts.{counted_inner}
 use Rattle.bq_experiment.specs.Faults.{IsNoEnd}
 use Rattle.bq_experiment.specs.Limits.{IsLonger}
-use Rattle.bq_experiment.specs.Standing.{image_for}
+use Rattle.bq_experiment.specs.PoliciesAndImages.{image_for}
 use Rattle.bq_experiment.proofs.TraceLemmas.{TakesRun, longer_named, run_written}
 use Rattle.bq_experiment.proofs.ViewLemmas.{IsStopped-by}
 use Rattle.bq_experiment.proofs.one_run.write_trace.Goals as goal

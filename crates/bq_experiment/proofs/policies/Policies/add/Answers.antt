@@ -5,10 +5,10 @@ use Rattle.bq_experiment.proofs.policies.Policies.add.Goals as goal
 
 pub returns-clause-taken : goal.returns-clause-taken
 returns-clause-taken c =
-    takes_at c.take.result c.args.hook _ c.args.file.now c.args.self.now c.take.new.self c.take.ensures.taken
+    takes_at c.add_asked.result c.args.hook _ c.args.file.now c.args.self.now c.add_asked.new.self c.add_asked.ensures.taken
     (record { hook_is = refl; maps = c.nothing-asked.ensures.maps; format = c.nothing-asked.ensures.format })
 
 pub returns-clause-reported : goal.returns-clause-reported
 returns-clause-reported c =
-    reported_of c.take.result (Some c.args.hook) _ c.args.file.now c.args.self.now c.take.ensures.reported
+    reported_of c.add_asked.result (Some c.args.hook) _ c.args.file.now c.args.self.now c.add_asked.ensures.reported
     (record { hook_is = refl; maps = c.nothing-asked.ensures.maps; format = c.nothing-asked.ensures.format })

@@ -1,5 +1,5 @@
 use Rattle.std.proofs.Common.{◌≡◌, drop, map}
-use Rattle.bq_experiment.specs.Standing.{image_for, image_as_bytes}
+use Rattle.bq_experiment.specs.PoliciesAndImages.{image_for, image_as_bytes}
 use Rattle.bq_experiment.proofs.policies.Policies.image_at.Given as goal
 
 -- what is for the hook is among the rest

@@ -8,7 +8,7 @@ use Rattle.bq_parts.specs.Refusals.{same_hook}
 use Rattle.bq_simulate.specs.Replays.{AreOfImages, IsLoadedFromImage}
 use Rattle.bq_simulate.specs.Texts.{ByHook}
 use Rattle.bq_simulate.specs.Simulations.{Accepted}
-use Rattle.bq_experiment.specs.Standing.{AddsPolicy, AreOfTheirImages, Standing, image_for}
+use Rattle.bq_experiment.specs.PoliciesAndImages.{AddsPolicy, AreOfTheirImages, PoliciesAndImages, image_for}
 
 -- each hook is the same hook as itself
 itself : (hook : Hook) → same_hook hook hook ≡ true
@@ -67,7 +67,7 @@ push images [] policy h one = (one, tt)
 push images (p ∷ policies) policy h one = (h.0, push images policies policy h.1 one)
 
 -- each policy is that of its image, too, after one more came with an image for a hook at which none was
-pub AreOfTheirImages-adds : (hook : Hook) (image : List ℕ) (policy : Accepted) (old new : Standing)
+pub AreOfTheirImages-adds : (hook : Hook) (image : List ℕ) (policy : Accepted) (old new : PoliciesAndImages)
     → AddsPolicy hook image policy old new → policy.hook ≡ hook → image_for old.images hook ≡ None
     → IsLoadedFromImage (Some image) policy → AreOfTheirImages old
     → AreOfTheirImages new

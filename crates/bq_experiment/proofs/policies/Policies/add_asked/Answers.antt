@@ -4,11 +4,11 @@ use Rattle.std.proofs.lemmas.Result.{err_from_is_err_and, on_ok_weaker}
 use Rattle.std.specs.Borrow.{Bor}
 use Rattle.bq_simulate.specs.Replays.{IsLoadedFromImage}
 use Rattle.bq_policy_file.specs.Files.{IsPolicy, IsPolicyFault}
-use Rattle.bq_experiment.specs.Standing.{image_for}
+use Rattle.bq_experiment.specs.PoliciesAndImages.{image_for}
 use Rattle.bq_experiment.specs.Taking.{IsFaultOfImage}
-use Rattle.bq_experiment.proofs.StandingLemmas.{found_is_there, not_found}
+use Rattle.bq_experiment.proofs.PolicyImageLemmas.{found_is_there, not_found}
 use Rattle.bq_experiment.proofs.TakingLemmas.{image_reported, memory_reported, none_reported}
-use Rattle.bq_experiment.proofs.policies.Policies.take.Goals as goal
+use Rattle.bq_experiment.proofs.policies.Policies.add_asked.Goals as goal
 
 pub returns-in-Err-clause-reported : goal.returns-in-Err-clause-reported
 returns-in-Err-clause-reported c =
