@@ -1,7 +1,7 @@
 -- Lines, one more at the end.
 use Rattle.std.proofs.Common.{◌≡◌, ℕ, ◌+◌, List, [], ◌∷◌, ◌++◌, Option, length, refl, ap, inl, inr, arith}
 use Rattle.std.proofs.lemmas.Grind.{common_steps}
-use Rattle.bq_comparison.specs.declared.summing.FigureRow.{FigureRow}
+use Rattle.bq_comparison.specs.declared.figure_row.FigureRow.{FigureRow}
 use Rattle.bq_comparison.specs.declared.sides.OtherSide.{OtherSide}
 use Rattle.bq_comparison.specs.declared.line.FigureLine.{FigureLine}
 use Rattle.bq_comparison.specs.Lines.{Selects, row_beside, rows_beside}

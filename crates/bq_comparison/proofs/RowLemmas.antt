@@ -1,8 +1,8 @@
 -- Rows, one more at the end.
 use Rattle.std.proofs.Common.{ℕ, ◌+◌, List, [], ◌∷◌, ◌++◌, length, subst, arith}
-use Rattle.bq_comparison.specs.declared.naming.Figure.{Figure}
+use Rattle.bq_comparison.specs.declared.figure.Figure.{Figure}
 use Rattle.bq_comparison.specs.declared.runs.RunFigures.{RunFigures}
-use Rattle.bq_comparison.specs.declared.summing.FigureRow.{FigureRow}
+use Rattle.bq_comparison.specs.declared.figure_row.FigureRow.{FigureRow}
 use Rattle.bq_comparison.specs.Rows.{AreRowsFrom, IsRow, numbers_at}
 
 -- rows of some figures and the row of one figure more are the rows of all

@@ -9,7 +9,7 @@ use Rattle.bq_comparison.specs.declared.fault.SeedsFault.{SeedsFault}
 use Rattle.bq_comparison.specs.declared.runs.RunFigures.{RunFigures}
 use Rattle.bq_comparison.specs.declared.seeds.Experiment.{Experiment}
 use Rattle.bq_comparison.specs.declared.sides.OtherSide.{OtherSide}
-use Rattle.bq_comparison.specs.declared.summing.FigureRow.{FigureRow}
+use Rattle.bq_comparison.specs.declared.figure_row.FigureRow.{FigureRow}
 
 -- the run of the experiment with this seed
 abbrev pub IsRunWithSeed : Experiment → ℕ → RunFigures → Type 0

@@ -1,10 +1,10 @@
 -- Figures side by side.
 use Rattle.std.specs.Prelude.{◌≡◌, ℕ, ◌+◌, ◌==◌, ◌&&◌, ◌⊎◌, Bool, false, List, [], ◌∷◌, Option, Some, None, slice_get, option_and_then}
-use Rattle.bq_comparison.specs.declared.naming.Figure.{Figure}
-use Rattle.bq_comparison.specs.declared.naming.Figure.TheVariants.{Task, Latency, StillWaiting, Processor, Hook}
+use Rattle.bq_comparison.specs.declared.figure.Figure.{Figure}
+use Rattle.bq_comparison.specs.declared.figure.Figure.TheVariants.{Task, Latency, StillWaiting, Processor, Hook}
 use Rattle.bq_comparison.specs.declared.pairs.PairedRow.{PairedRow}
 use Rattle.bq_comparison.specs.declared.sides.OtherSide.{OtherSide}
-use Rattle.bq_comparison.specs.declared.summing.FigureRow.{FigureRow}
+use Rattle.bq_comparison.specs.declared.figure_row.FigureRow.{FigureRow}
 use Rattle.bq_report.specs.declared.window.Window.{Window}
 use Rattle.bq_report.specs.Windows.{ShowsProcessor, ShowsTask}
 use Rattle.bq_comparison.specs.declared.line.FigureLine.{FigureLine}

@@ -3,13 +3,13 @@ use Rattle.std.specs.Prelude.{ℕ, List, [], ◌∷◌, ◌++◌}
 use Rattle.std.specs.List.{flat_map, range_with_len}
 use Rattle.bq_hooks.specs.declared.hook.Hook.{Hook}
 use Rattle.bq_hooks.specs.declared.hook.Hook.TheVariants as hook
-use Rattle.bq_comparison.specs.declared.all.MachineSize.{MachineSize}
-use Rattle.bq_comparison.specs.declared.naming.Figure.{Figure}
-use Rattle.bq_comparison.specs.declared.naming.Figure.TheVariants.{Task, Latency, StillWaiting, Processor, Hook as AtHook}
-use Rattle.bq_comparison.specs.declared.naming.HookFigure.TheVariants.{Asked, Overruled, Steps}
-use Rattle.bq_comparison.specs.declared.naming.LatencyFigure.TheVariants as of_latency
-use Rattle.bq_comparison.specs.declared.naming.ProcessorFigure.TheVariants as of_processor
-use Rattle.bq_comparison.specs.declared.naming.TaskFigure.TheVariants as of_task
+use Rattle.bq_comparison.specs.declared.report_figures.MachineSize.{MachineSize}
+use Rattle.bq_comparison.specs.declared.figure.Figure.{Figure}
+use Rattle.bq_comparison.specs.declared.figure.Figure.TheVariants.{Task, Latency, StillWaiting, Processor, Hook as AtHook}
+use Rattle.bq_comparison.specs.declared.figure.HookFigure.TheVariants.{Asked, Overruled, Steps}
+use Rattle.bq_comparison.specs.declared.figure.LatencyFigure.TheVariants as of_latency
+use Rattle.bq_comparison.specs.declared.figure.ProcessorFigure.TheVariants as of_processor
+use Rattle.bq_comparison.specs.declared.figure.TaskFigure.TheVariants as of_task
 
 -- the figures of a task
 abbrev pub figures_of_task : ℕ → List Figure

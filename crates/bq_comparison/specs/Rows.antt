@@ -2,8 +2,8 @@
 use Rattle.std.specs.Prelude.{◌≡◌, ℕ, ◌+◌, ◌<◌, ◌⊎◌, List, [], ◌∷◌, length, MatchOption}
 use Rattle.std.specs.List.{filter_map}
 use Rattle.bq_comparison.specs.Means.{IsDeviation, IsMean, IsTooGreat}
-use Rattle.bq_comparison.specs.declared.naming.Figure.{Figure}
-use Rattle.bq_comparison.specs.declared.summing.FigureRow.{FigureRow}
+use Rattle.bq_comparison.specs.declared.figure.Figure.{Figure}
+use Rattle.bq_comparison.specs.declared.figure_row.FigureRow.{FigureRow}
 use Rattle.bq_comparison.specs.declared.runs.RunFigures.{RunFigures}
 use Rattle.bq_comparison.specs.Runs.{figure_value_at}
 

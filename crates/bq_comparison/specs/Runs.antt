@@ -2,7 +2,7 @@
 use Rattle.std.specs.Prelude.{◌≡◌, ℕ, List, Option, All, map, slice_get, option_and_then}
 use Rattle.bq_schedule.specs.Figures.{Figures}
 use Rattle.bq_schedule.specs.WakeLatencies.{Tasks}
-use Rattle.bq_comparison.specs.declared.naming.Figure.{Figure}
+use Rattle.bq_comparison.specs.declared.figure.Figure.{Figure}
 use Rattle.bq_comparison.specs.declared.runs.RunFigures.{RunFigures}
 use Rattle.bq_comparison.specs.Values.{IsFigureValue}
 

@@ -3,8 +3,8 @@ use Rattle.std.specs.Prelude.{◌≡◌, ℕ, ◌+◌, List, [], ◌∷◌, ◌+
 use Rattle.bq_workload.specs.declared.workload.Workload.{Workload}
 use Rattle.bq_schedule.specs.Figures.{Figures}
 use Rattle.bq_schedule.specs.WakeLatencies.{Tasks}
-use Rattle.bq_comparison.specs.declared.naming.Figure.{Figure}
-use Rattle.bq_comparison.specs.declared.summing.FigureRow.{FigureRow}
+use Rattle.bq_comparison.specs.declared.figure.Figure.{Figure}
+use Rattle.bq_comparison.specs.declared.figure_row.FigureRow.{FigureRow}
 use Rattle.bq_comparison.specs.declared.runs.RunFigures.{RunFigures}
 use Rattle.bq_comparison.specs.Rows.{AreRows}
 use Rattle.bq_comparison.specs.Runs.{IsRunOf}

@@ -4,12 +4,12 @@ use Rattle.std.specs.Borrow.{Bor}
 use Rattle.std.specs.Option.{IsSomeAnd}
 use Rattle.bq_words.specs.Sizes.{processors_in}
 use Rattle.bq_workload.specs.declared.workload.Workload.{Workload}
-use Rattle.bq_comparison.specs.declared.all.MachineSize.{MachineSize}
+use Rattle.bq_comparison.specs.declared.report_figures.MachineSize.{MachineSize}
 use Rattle.bq_comparison.specs.Report.{figures_of_report}
 use Rattle.bq_simulate.specs.Simulations.{Accepted}
 use Rattle.bq_experiment.specs.PoliciesAndImages.{PoliciesAndImages}
 use Rattle.bq_comparison.specs.Pairs.{ArePairedRows}
-use Rattle.bq_comparison.specs.declared.naming.Figure.{Figure}
+use Rattle.bq_comparison.specs.declared.figure.Figure.{Figure}
 use Rattle.bq_comparison.specs.declared.runs.RunFigures.{RunFigures}
 use Rattle.bq_comparison.specs.declared.sides.OtherSide.{OtherSide}
 use Rattle.bq_comparison.specs.Seeds.{IsSeedsSummary}

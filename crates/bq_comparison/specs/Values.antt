@@ -11,16 +11,16 @@ use Rattle.bq_schedule.specs.Observed.{observed_time, idle_in}
 use Rattle.bq_schedule.specs.Runnable.{fair_of}
 use Rattle.bq_schedule.specs.WakeLatencies.{Tasks, latencies_of, percentiles_of}
 use Rattle.bq_schedule.specs.declared.percentiles.Percentiles.{Percentiles}
-use Rattle.bq_comparison.specs.declared.naming.Figure.{Figure}
-use Rattle.bq_comparison.specs.declared.naming.Figure.TheVariants as figure
-use Rattle.bq_comparison.specs.declared.naming.HookFigure.{HookFigure}
-use Rattle.bq_comparison.specs.declared.naming.HookFigure.TheVariants as of_hook
-use Rattle.bq_comparison.specs.declared.naming.LatencyFigure.{LatencyFigure}
-use Rattle.bq_comparison.specs.declared.naming.LatencyFigure.TheVariants as of_latency
-use Rattle.bq_comparison.specs.declared.naming.ProcessorFigure.{ProcessorFigure}
-use Rattle.bq_comparison.specs.declared.naming.ProcessorFigure.TheVariants as of_processor
-use Rattle.bq_comparison.specs.declared.naming.TaskFigure.{TaskFigure}
-use Rattle.bq_comparison.specs.declared.naming.TaskFigure.TheVariants as of_task
+use Rattle.bq_comparison.specs.declared.figure.Figure.{Figure}
+use Rattle.bq_comparison.specs.declared.figure.Figure.TheVariants as figure
+use Rattle.bq_comparison.specs.declared.figure.HookFigure.{HookFigure}
+use Rattle.bq_comparison.specs.declared.figure.HookFigure.TheVariants as of_hook
+use Rattle.bq_comparison.specs.declared.figure.LatencyFigure.{LatencyFigure}
+use Rattle.bq_comparison.specs.declared.figure.LatencyFigure.TheVariants as of_latency
+use Rattle.bq_comparison.specs.declared.figure.ProcessorFigure.{ProcessorFigure}
+use Rattle.bq_comparison.specs.declared.figure.ProcessorFigure.TheVariants as of_processor
+use Rattle.bq_comparison.specs.declared.figure.TaskFigure.{TaskFigure}
+use Rattle.bq_comparison.specs.declared.figure.TaskFigure.TheVariants as of_task
 
 -- the value of a figure of a task
 abbrev pub task_value : Figures → ℕ → TaskFigure → ℕ

@@ -5,41 +5,41 @@
 //! Builds on bq_experiment for the command's words, and on bq_simulate for the runs.
 #![tactic(auto)]
 
-mod all;
 mod asked;
 mod cells;
 mod csv_text;
 mod difference;
 mod fault;
+mod figure;
+mod figure_row;
 mod gathering;
 mod json_text;
 mod labels;
 mod line;
 pub mod means;
-mod naming;
 mod pairing;
 mod pairs;
+mod report_figures;
 mod runs;
 mod seeds;
 mod sides;
-mod summing;
 mod table;
+mod text;
 mod values;
-mod writing;
 
-pub use all::{MachineSize, all_figures};
 pub use asked::{Comparing, ComparingFault, TableForm, asked_comparison};
 pub use difference::Difference;
 pub use fault::SeedsFault;
+pub use figure::{Figure, HookFigure, LatencyFigure, ProcessorFigure, TaskFigure};
+pub use figure_row::{FigureRow, rows};
 pub use gathering::Gatherer;
 pub use line::{FigureLine, lines};
 pub use means::{deviation, mean};
-pub use naming::{Figure, HookFigure, LatencyFigure, ProcessorFigure, TaskFigure};
 pub use pairing::paired_rows;
 pub use pairs::{Pair, PairedRow, paired_deviation};
+pub use report_figures::{MachineSize, all_figures};
 pub use runs::{FigureValue, RunFigures, run_of};
 pub use seeds::{Experiment, Rows, RunsShown, SeedsSummary, summary};
 pub use sides::{OtherSide, RunPlan, Sides, compare, size_of_machine};
-pub use summing::{FigureRow, rows};
+pub use text::comparison_text;
 pub use values::value_of;
-pub use writing::comparison_text;

@@ -2,7 +2,7 @@
 ghost use Rattle.std.specs.Prelude.{◌≡◌, IfOk};
 ghost use Rattle.bq_comparison.specs.Runs.{IsRunOf, figure_value_at};
 
-use crate::naming::Figure;
+use crate::figure::Figure;
 use crate::values::value_of;
 use bq_schedule::{Schedule, WakeLatencies};
 use std::alloc::{AllocError, Global};

@@ -3,7 +3,7 @@ ghost use Rattle.std.specs.Prelude.{◌≡◌};
 ghost use Rattle.bq_schedule.specs.WakeLatencies.{latencies_of};
 ghost use Rattle.bq_comparison.specs.Values.{AreReordered, IsPercentile, IsFigureValue, hook_value, percentile_value, processor_value, task_value};
 
-use crate::naming::{Figure, HookFigure, LatencyFigure, ProcessorFigure, TaskFigure};
+use crate::figure::{Figure, HookFigure, LatencyFigure, ProcessorFigure, TaskFigure};
 use bq_hooks::Hook;
 use bq_report::tables::nanoseconds;
 use bq_report::{still_waiting, waited_in_all};

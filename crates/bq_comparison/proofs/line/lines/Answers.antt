@@ -1,8 +1,8 @@
 use Rattle.std.proofs.Common.{rules, ◌≡◌, ◌+◌, ◌<◌, List, [], ◌∷◌, ◌++◌, length, get_or, take, subst, sym, ap, ◌∙◌, None, refl, arith}
 use Rattle.std.proofs.lemmas.List.{length-take, take_more}
-use Rattle.bq_comparison.specs.declared.naming.Figure.TheVariants.{Task}
-use Rattle.bq_comparison.specs.declared.naming.TaskFigure.TheVariants.{Ran}
-use Rattle.bq_comparison.specs.declared.summing.FigureRow.{FigureRow}
+use Rattle.bq_comparison.specs.declared.figure.Figure.TheVariants.{Task}
+use Rattle.bq_comparison.specs.declared.figure.TaskFigure.TheVariants.{Ran}
+use Rattle.bq_comparison.specs.declared.figure_row.FigureRow.{FigureRow}
 use Rattle.bq_comparison.specs.declared.line.FigureLine.{FigureLine}
 use Rattle.bq_comparison.specs.Lines.{Selects, IsLineShown, row_beside, rows_beside}
 use Rattle.bq_comparison.proofs.LineLemmas.{Selects-take, Selects-leave, beside-more}

@@ -1,7 +1,7 @@
 use Rattle.std.proofs.Common.{rules, ◌≡◌, List, subst}
 use Rattle.bq_comparison.specs.Report.{figures_of_report}
 use Rattle.bq_comparison.specs.Sides.{IsOtherSide, size_of_machine}
-use Rattle.bq_comparison.specs.declared.naming.Figure.{Figure}
+use Rattle.bq_comparison.specs.declared.figure.Figure.{Figure}
 use Rattle.bq_comparison.specs.declared.runs.RunFigures.{RunFigures}
 use Rattle.bq_comparison.proofs.sides.compare.Goals as goal
 

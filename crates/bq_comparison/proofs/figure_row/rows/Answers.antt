@@ -1,11 +1,11 @@
 use Rattle.std.proofs.Common.{◌≡◌, ℕ, ◌+◌, ◌<◌, List, length, get_or, take, subst, arith, rules}
 use Rattle.std.proofs.lemmas.List.{length-take, take_more}
-use Rattle.bq_comparison.specs.declared.naming.Figure.{Figure}
-use Rattle.bq_comparison.specs.declared.naming.Figure.TheVariants.{Task}
-use Rattle.bq_comparison.specs.declared.naming.TaskFigure.TheVariants.{Ran}
+use Rattle.bq_comparison.specs.declared.figure.Figure.{Figure}
+use Rattle.bq_comparison.specs.declared.figure.Figure.TheVariants.{Task}
+use Rattle.bq_comparison.specs.declared.figure.TaskFigure.TheVariants.{Ran}
 use Rattle.bq_comparison.specs.Rows.{IsRow, numbers_at}
 use Rattle.bq_comparison.proofs.RowLemmas.{AreRowsFrom-push}
-use Rattle.bq_comparison.proofs.summing.rows.Goals as goal
+use Rattle.bq_comparison.proofs.figure_row.rows.Goals as goal
 
 pub figures-preserved : goal.figures-preserved
 figures-preserved c =

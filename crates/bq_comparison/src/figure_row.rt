@@ -3,7 +3,7 @@ ghost use Rattle.std.specs.Prelude.{◌≡◌, ◌≤◌, IfOk, length};
 ghost use Rattle.bq_comparison.specs.Rows.{AreRows, IsRow, numbers_at};
 ghost use Rattle.bq_comparison.specs.declared.means.TheConstants.{MOST_NUMBERS};
 
-use crate::naming::Figure;
+use crate::figure::Figure;
 use crate::runs::RunFigures;
 use crate::{deviation, mean};
 use std::alloc::{AllocError, Global};

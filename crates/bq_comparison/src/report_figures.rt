@@ -2,7 +2,7 @@
 ghost use Rattle.std.specs.Prelude.{◌≡◌, IfOk};
 ghost use Rattle.bq_comparison.specs.Report.{figures_of_processor, figures_of_report, figures_of_task};
 
-use crate::naming::{Figure, HookFigure, LatencyFigure, ProcessorFigure, TaskFigure};
+use crate::figure::{Figure, HookFigure, LatencyFigure, ProcessorFigure, TaskFigure};
 use bq_hooks::Hook;
 use std::alloc::{AllocError, Global};
 

@@ -1,4 +1,4 @@
-//! Lines as text.
+//! The text of a comparison, in the form that is asked for.
 
 use crate::asked::{Comparing, TableForm};
 use crate::csv_text::csv_text;

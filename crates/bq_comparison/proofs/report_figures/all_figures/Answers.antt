@@ -3,7 +3,7 @@ use Rattle.std.proofs.lemmas.Grind.{common_steps}
 use Rattle.std.specs.List.{flat_map, range_with_len}
 use Rattle.bq_comparison.specs.Report.{figures_of_processor, figures_of_task}
 use Rattle.bq_comparison.proofs.RangeLemmas.{flat_map-range_more}
-use Rattle.bq_comparison.proofs.all.all_figures.Goals as goal
+use Rattle.bq_comparison.proofs.report_figures.all_figures.Goals as goal
 
 pub tasks-preserved : goal.tasks-preserved
 tasks-preserved c = grind (arith, common_steps, flat_map-range_more figures_of_task 0 c.tasks.task)

@@ -1,7 +1,7 @@
 use Rattle.std.proofs.Common.{◌≡◌, ◌≤◌, length}
 use Rattle.std.specs.Prelude.{take}
 use Rattle.bq_comparison.specs.Rows.{numbers_at}
-use Rattle.bq_comparison.proofs.summing.numbers_at.Given as goal
+use Rattle.bq_comparison.proofs.figure_row.numbers_at.Given as goal
 
 abbrev pub invariant-runs : goal.invariant-runs
 invariant-runs l =

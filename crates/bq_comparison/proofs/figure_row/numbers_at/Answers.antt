@@ -1,8 +1,8 @@
 use Rattle.std.proofs.Common.{arith}
 use Rattle.std.proofs.lemmas.Grind.{common_steps}
 use Rattle.std.proofs.lemmas.List.Elements.{filter_map-append}
-use Rattle.bq_comparison.proofs.summing.numbers_at.Goals as goal
-use Rattle.bq_comparison.proofs.summing.numbers_at.Goals.{in-Some+in_ok-push, in_default}
+use Rattle.bq_comparison.proofs.figure_row.numbers_at.Goals as goal
+use Rattle.bq_comparison.proofs.figure_row.numbers_at.Goals.{in-Some+in_ok-push, in_default}
 
 pub runs-preserved : goal.runs-preserved
 runs-preserved c =
