@@ -6,7 +6,8 @@ ghost use Rattle.bq_cli.specs.declared.asm.AsmWords.{AsmWords as AsmWordsValue};
 
 use crate::command::Command;
 use crate::dispatch::perform_from;
-use crate::policy_words::{format_in, hook_in, most_bytes, policy_words};
+use crate::policy_words::{format_in, hook_in, policy_words};
+use crate::read_limits::most_bytes;
 use bq_asm_faults::complaint;
 use bq_console::status::BAD_INPUT;
 use bq_console::{Lines, WordsFault, report_out_of_memory, whole_input, written};

@@ -5,7 +5,8 @@ ghost use Rattle.bq_cli.specs.Status.{EndsBy, answer_status};
 ghost use Rattle.bq_cli.specs.Words.{AreCheckWords, AreLimitWords, is_among, is_plain_check, limit_nothing, replaces_policy};
 
 use crate::answer::exit_status_of;
-use crate::policy_words::{most_bytes, name_nothing, policy_words};
+use crate::policy_words::{name_nothing, policy_words};
+use crate::read_limits::most_bytes;
 use bq_console::status::{BAD_INPUT, BAD_WORDS, IO_FAILED, OUT_OF_MEMORY};
 use bq_console::{
     Lines, Name, WordsFault, all_words, is_set, read_input, reason, refused_value, refused_words,

@@ -4,7 +4,8 @@ ghost use Rattle.clap.specs.Words.{found_of, rows_of};
 ghost use Rattle.bq_cli.specs.Words.{AreDisWords, is_plain_dis};
 
 use crate::answer::written_answer;
-use crate::policy_words::{most_bytes, name_nothing, policy_words};
+use crate::policy_words::{name_nothing, policy_words};
+use crate::read_limits::most_bytes;
 use bq_console::{WordsFault, is_set, whole_input};
 use bq_policy_check::{DisWords, list};
 use clap::ArgMatches;

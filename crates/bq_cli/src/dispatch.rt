@@ -45,12 +45,12 @@ fn do_words<T: Threads + Wait + Sync>(
 ) -> Result<ExitCode, WordsFault> {
     match words {
         ["--version" | "-V"] => Ok(write_version(rt)),
-        words => do_job(rt, threads, &job(rt.alloc(), words)?),
+        words => do_on_files(rt, threads, &job(rt.alloc(), words)?),
     }
 }
 
 /// Does a command: reads the files that its words name, or standard input, and writes to standard output.
-fn do_job<T: Threads + Wait + Sync>(
+fn do_on_files<T: Threads + Wait + Sync>(
     rt: &HostRuntime,
     threads: &T,
     command: &Command,

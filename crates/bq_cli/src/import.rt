@@ -5,7 +5,8 @@ ghost use Rattle.bq_console.specs.Words.{GivesNone};
 ghost use Rattle.bq_cli.specs.Words.{ArePolicyWords};
 ghost use Rattle.bq_cli.specs.Importing.{AskToImport};
 
-use crate::policy_words::{most_bytes, policy_words};
+use crate::policy_words::policy_words;
+use crate::read_limits::most_bytes;
 use bq_asm_faults::{TextKind, kind_of_text};
 use bq_bpf::with_program_bytes;
 use bq_console::status::BAD_INPUT;

@@ -15,6 +15,7 @@ pub mod import;
 pub mod par;
 mod performing;
 mod policy_words;
+mod read_limits;
 mod refusing;
 pub mod replaying;
 mod run;

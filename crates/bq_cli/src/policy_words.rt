@@ -6,10 +6,9 @@ ghost use Rattle.bq_hooks.specs.declared.hook.Version.{Version as VersionValue};
 ghost use Rattle.bq_policy_check.specs.Given.{option_bytes};
 ghost use Rattle.bq_cli.specs.Words.{ArePolicyWords, GivesHook, GivesVersion, name_nothing};
 
-use bq_console::{MOST_BYTES, WordsFault, refused_value, word};
+use bq_console::{WordsFault, refused_value, word};
 use bq_hooks::{Hook, Version};
 use bq_policy_check::{FORMAT, HOOK, HOOK_WORDS, PolicyWords};
-use bq_words::number;
 use clap::ArgMatches;
 use std::alloc::{AllocError, Global};
 
@@ -70,50 +69,5 @@ pub(crate) fn format_in(alloc: Global, word: &Option<String>) -> Result<Option<V
     match Version::of_word(word.as_bytes()) {
         Some(version) => Ok(Some(version)),
         None => Err(refused_value(alloc, "format", word, FORMAT, "")),
-    }
-}
-
-/// What a number of bytes is.
-const BYTES: &str = "a number of bytes is a whole number below 2^64, as 1048576";
-/// What a number of events is.
-const EVENTS: &str = "a number of events is a whole number below 2^64, as 1000000";
-
-/// The most bytes that are read, by the word of `--max-bytes` if there is one.
-pub(crate) fn most_bytes(alloc: Global, word: &Option<String>) -> Result<u64, WordsFault> {
-    match limit_of_bytes(alloc, word)? {
-        Some(most) => Ok(most),
-        None => Ok(MOST_BYTES),
-    }
-}
-
-/// The number that the word of `--max-bytes` says, if there is one.
-pub(crate) fn limit_of_bytes(
-    alloc: Global,
-    word: &Option<String>,
-) -> Result<Option<u64>, WordsFault> {
-    limit_in(alloc, word, "max-bytes", BYTES)
-}
-
-/// The most events of a run, by the word of `--max-events` if there is one.
-pub(crate) fn most_events(alloc: Global, word: &Option<String>) -> Result<u64, WordsFault> {
-    match limit_in(alloc, word, "max-events", EVENTS)? {
-        Some(most) => Ok(most),
-        None => Ok(u64::MAX),
-    }
-}
-
-/// The number that the word of an option says, if there is one.
-fn limit_in(
-    alloc: Global,
-    word: &Option<String>,
-    option: &str,
-    right: &str,
-) -> Result<Option<u64>, WordsFault> {
-    let Some(word) = word else {
-        return Ok(None);
-    };
-    match number(word.as_bytes(), 10) {
-        Some(most) => Ok(Some(most)),
-        None => Err(refused_value(alloc, option, word, right, "")),
     }
 }

@@ -5,7 +5,7 @@ ghost use Rattle.bq_cli.specs.Words.{AreReplayWords};
 
 use crate::command::Command;
 use crate::dispatch::perform_from;
-use crate::policy_words::limit_of_bytes;
+use crate::read_limits::limit_of_bytes;
 use bq_console::{Bounded, WordsFault, file_named, opened, report_unread, waiting_input, word};
 use clap::ArgMatches;
 use std::alloc::{AllocError, Global};

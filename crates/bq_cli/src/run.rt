@@ -5,7 +5,8 @@ ghost use Rattle.bq_policy_check.specs.Given.{option_bytes};
 ghost use Rattle.bq_cli.specs.Words.{AreAll, AreRunWords, AreReportWords, IsFirstWord};
 
 use crate::answer::written_answer;
-use crate::policy_words::{most_bytes, policy_words};
+use crate::policy_words::policy_words;
+use crate::read_limits::most_bytes;
 use bq_console::{WordsFault, all_words, is_set, whole_input, word};
 use bq_policy_check::{ReportWords, RunWords};
 use bq_policy_run::run;

@@ -4,7 +4,7 @@ ghost use Rattle.clap.specs.Words.{found_of, rows_of};
 ghost use Rattle.bq_cli.specs.Simulating.{AskToSimulate, AskForStudy};
 ghost use Rattle.bq_cli.specs.Words.{AreHookWords, AreMachineWords, AreSimulateWords, AreStudyWords};
 
-use crate::policy_words::{most_bytes, most_events};
+use crate::read_limits::{most_bytes, most_events};
 use crate::refusing::refusal;
 use crate::simulate_files::{others, policies, workload};
 use crate::timeline::shown_words;

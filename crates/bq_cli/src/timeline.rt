@@ -4,7 +4,7 @@ ghost use Rattle.clap.specs.Words.{found_of, rows_of};
 ghost use Rattle.bq_cli.specs.Words.{AreShownWords, AreTimelineWords};
 ghost use Rattle.bq_timeline.specs.Settings.{AsksForSettings};
 
-use crate::policy_words::limit_of_bytes;
+use crate::read_limits::limit_of_bytes;
 use crate::refusing::refusal;
 use bq_console::{
     Bounded, ErasingWriter, Lines, ProgressLine, ShowingReader, WordsFault, ended, file_named,

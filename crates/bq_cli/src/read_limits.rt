@@ -1,0 +1,50 @@
+//! The most bytes and events that a command reads, from the words of its options.
+
+use bq_console::{MOST_BYTES, WordsFault, refused_value};
+use bq_words::number;
+use std::alloc::Global;
+
+/// What a number of bytes is.
+const BYTES: &str = "a number of bytes is a whole number below 2^64, as 1048576";
+/// What a number of events is.
+const EVENTS: &str = "a number of events is a whole number below 2^64, as 1000000";
+
+/// The most bytes that are read, by the word of `--max-bytes` if there is one.
+pub(crate) fn most_bytes(alloc: Global, word: &Option<String>) -> Result<u64, WordsFault> {
+    match limit_of_bytes(alloc, word)? {
+        Some(most) => Ok(most),
+        None => Ok(MOST_BYTES),
+    }
+}
+
+/// The number that the word of `--max-bytes` says, if there is one.
+pub(crate) fn limit_of_bytes(
+    alloc: Global,
+    word: &Option<String>,
+) -> Result<Option<u64>, WordsFault> {
+    limit_in(alloc, word, "max-bytes", BYTES)
+}
+
+/// The most events of a run, by the word of `--max-events` if there is one.
+pub(crate) fn most_events(alloc: Global, word: &Option<String>) -> Result<u64, WordsFault> {
+    match limit_in(alloc, word, "max-events", EVENTS)? {
+        Some(most) => Ok(most),
+        None => Ok(u64::MAX),
+    }
+}
+
+/// The number that the word of an option says, if there is one.
+fn limit_in(
+    alloc: Global,
+    word: &Option<String>,
+    option: &str,
+    right: &str,
+) -> Result<Option<u64>, WordsFault> {
+    let Some(word) = word else {
+        return Ok(None);
+    };
+    match number(word.as_bytes(), 10) {
+        Some(most) => Ok(Some(most)),
+        None => Err(refused_value(alloc, option, word, right, "")),
+    }
+}
