@@ -1,7 +1,7 @@
 -- The axis of a picture, line after line.
 use Rattle.std.proofs.Common.{◌≡◌, ℕ, ◌+◌, List, ◌++◌, sym, ap, ◌∙◌, append_assoc, append-nil, add-one}
 use Rattle.bq_drawing.specs.Axes.{line_at, mark_if, axis_marks_text}
-use Rattle.bq_drawing.specs.Shapes.{PictureSetting}
+use Rattle.bq_drawing.specs.Frames.{PictureSetting}
 
 -- no line is drawn yet
 pub marks_none : (s : PictureSetting) (step top edge : ℕ) (text : List ℕ) → text ≡ text ++ axis_marks_text s step top edge 0

@@ -2,7 +2,7 @@
 use Rattle.std.proofs.Common.{◌≡◌, ℕ, ◌+◌, ◌<◌, List, [], drop, get_or, length, sym, ap, ◌∙◌}
 use Rattle.std.proofs.lemmas.List.{at_drop_more}
 use Rattle.std.specs.List.{fold}
-use Rattle.bq_drawing.specs.Frames.{mixed}
+use Rattle.bq_drawing.specs.PictureNames.{mixed}
 
 -- one more byte
 pub hash_more : (bytes : List ℕ) (i d hash next whole : ℕ) → i < length bytes → next ≡ mixed hash (get_or bytes i d)

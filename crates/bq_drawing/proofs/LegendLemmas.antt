@@ -6,7 +6,7 @@ use Rattle.std.specs.List.{list_any}
 use Rattle.std.specs.Ordering.{nat_cmp}
 use Rattle.bq_drawing.specs.Keys.{tasks_shown}
 use Rattle.bq_drawing.specs.Legends.{entries_text, entry_text}
-use Rattle.bq_drawing.specs.Shapes.{PictureSetting}
+use Rattle.bq_drawing.specs.Frames.{PictureSetting}
 
 -- one more task
 pub entries_next : (s : PictureSetting) (first : ℕ) (tasks : List ℕ) (place d : ℕ) (whole now next : List ℕ) → place < length tasks

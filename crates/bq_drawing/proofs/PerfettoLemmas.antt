@@ -18,7 +18,7 @@ use Rattle.bq_report.specs.Windows.{IsShownPart}
 use Rattle.bq_report.proofs.ReportLemmas.{AreParts-end, lines_more}
 use Rattle.bq_drawing.specs.declared.perfetto.ShownParts.{ShownParts}
 use Rattle.bq_drawing.specs.Events.{act_name, beginning_text, event_track, instant_text, run_event, run_name, run_object, task_args, track_text, tracks_text}
-use Rattle.bq_drawing.specs.Histories.{Past, arrows_to, next_arrow}
+use Rattle.bq_drawing.specs.PastEvents.{Past, arrows_to, next_arrow}
 use Rattle.bq_drawing.specs.Runs.{run_on}
 use Rattle.bq_drawing.specs.Perfetto.{IsPerfettoOf, IsPerfettoRunner, IsPerfettoTail, ShowsChange, left_run, past_reading, past_start, past_stop, past_wake, perfetto_ends_if, perfetto_migration, perfetto_overruled, perfetto_pull, perfetto_reading, perfetto_run, perfetto_wake}
 

@@ -35,11 +35,13 @@ use Rattle.bq_drawing.specs.Legends.{legend_height, legend_text}
 use Rattle.bq_drawing.specs.Links.{link_line, links_text}
 use Rattle.bq_drawing.specs.Lanes.{lane_of, lanes_after, left_out, lanes_taken}
 use Rattle.bq_drawing.specs.Pictures.{IsDrawing, IsDrawnOver, IsHead, IsPicture, IsPictureOf}
-use Rattle.bq_drawing.specs.Places.{band_height, lane_height, level_height, row_gap, rows_edge}
+use Rattle.bq_drawing.specs.Scales.{band_height, lane_height, level_height, row_gap, rows_edge}
 use Rattle.bq_drawing.specs.Rows.{ArePutInOrder, DrawingRow, Rows, labels_text, drawing_row_of, drawing_row_text}
 use Rattle.bq_drawing.specs.Runs.{run_ended_by, run_on}
-use Rattle.bq_drawing.specs.Shapes.{PictureSetting, arrow_of, band_text, drawn_in, in_lanes, label_text, row_name, drawn_run_text, shape_in, waits_text, wakes_text}
-use Rattle.bq_drawing.specs.Titles.{axis_step, xml_letter}
+use Rattle.bq_drawing.specs.Frames.{PictureSetting, drawn_in}
+use Rattle.bq_drawing.specs.Shapes.{arrow_of, band_text, in_lanes, label_text, row_name, drawn_run_text, shape_in, waits_text, wakes_text}
+use Rattle.bq_drawing.specs.Escapes.{xml_letter}
+use Rattle.bq_drawing.specs.Units.{axis_step}
 use Rattle.bq_drawing.specs.Writing.{AreDrawn, IsRowWritten, IsRowWrittenIf, key_beside}
 
 -- no run that goes on is held yet

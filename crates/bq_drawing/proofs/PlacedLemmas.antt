@@ -23,9 +23,10 @@ use Rattle.bq_drawing.specs.declared.links.LinkKind.TheVariants.{Migration, Pull
 use Rattle.bq_drawing.specs.Holdings.{Held}
 use Rattle.bq_drawing.specs.Links.{link_line, link_if, same_kind}
 use Rattle.bq_drawing.specs.Lanes.{lane_of, lanes_after, left_out, lanes_taken, without_lane}
-use Rattle.bq_drawing.specs.Places.{rows_edge}
+use Rattle.bq_drawing.specs.Scales.{rows_edge}
 use Rattle.bq_drawing.specs.Rows.{ArePlaced, HasRow, IsNextRow, IsNoRow, PlacedRow, Rows, labels_text, drawing_row_of, drawing_row_text, top_at}
-use Rattle.bq_drawing.specs.Shapes.{PictureSetting, arrow_of}
+use Rattle.bq_drawing.specs.Frames.{PictureSetting}
+use Rattle.bq_drawing.specs.Shapes.{arrow_of}
 use Rattle.bq_drawing.specs.Writing.{AreDrawn, AreWritten, IsRowWritten, IsRowWrittenIf}
 
 -- ---- lanes

@@ -4,9 +4,9 @@ use Rattle.std.specs.Fmt.{decimal}
 use Rattle.std.specs.Int.{div_ceil}
 use Rattle.bq_disc.specs.Counts.{saturating_sum}
 use Rattle.bq_report.specs.declared.extent.Extent.{Extent}
-use Rattle.bq_drawing.specs.Places.{hundredths, left_edge, moment_place, time_width}
-use Rattle.bq_drawing.specs.Shapes.{PictureSetting}
-use Rattle.bq_drawing.specs.Titles.{unit_length, unit_name}
+use Rattle.bq_drawing.specs.Scales.{hundredths, left_edge, moment_place, time_width}
+use Rattle.bq_drawing.specs.Frames.{PictureSetting}
+use Rattle.bq_drawing.specs.Units.{unit_length, unit_name}
 
 -- how many lines an axis has at most
 abbrev pub most_lines : ℕ

@@ -1,49 +1,53 @@
--- The frame of a picture: the beginning of its root, with its name and its size, its title, and its end.
-use Rattle.std.specs.Prelude.{ℕ, ◌-◌, ◌*◌, ◌%◌, ◌^◌, false, List, [], ◌++◌, bit_xor, codes}
-use Rattle.std.specs.Fmt.{decimal, digits, format_spec, padded_integral}
-use Rattle.std.specs.List.{fold}
-use Rattle.bq_drawing.specs.declared.theme.Theme.{Theme}
-use Rattle.bq_drawing.specs.declared.theme.Theme.TheVariants.{Light, Dark, Auto}
-use Rattle.bq_drawing.specs.Places.{page_width}
-use Rattle.bq_drawing.specs.Titles.{escaped}
+-- What the shapes of a picture share: the time that it is drawn over, the unit of its times, and the colours and the names of tasks.
+use Rattle.std.specs.Prelude.{ℕ, ◌+◌, ◌-◌, ◌*◌, ◌/◌, ◌%◌, ◌^◌, List, chars, length, min, unwrap_or}
+use Rattle.std.specs.Option.{option_map}
+use Rattle.bq_disc.specs.Counts.{saturating_sum}
+use Rattle.bq_report.specs.declared.extent.Extent.{Extent}
+use Rattle.bq_report.specs.Names.{NamedTasks, name_of}
+use Rattle.bq_report.specs.AdmittedTasks.{admitted_place}
+use Rattle.bq_drawing.specs.declared.colours.TheConstants.{COLOURS}
+use Rattle.bq_drawing.specs.declared.frame.Frame.{Frame}
+use Rattle.bq_drawing.specs.declared.unit.TimeUnit.{TimeUnit}
+use Rattle.bq_drawing.specs.Escapes.{escaped}
+use Rattle.bq_drawing.specs.Events.{label_of}
+use Rattle.bq_drawing.specs.Units.{axis_step, unit_of_step}
 
--- ---- the name of a picture, by which its styles are its own
+-- what the shapes of a picture share: the time that it is drawn over, the unit of its times, and the tasks of the trace, in order, with
+-- their names
+pub record PictureSetting : Type 0 where
+  pub extent : Extent
+  pub unit : TimeUnit
+  pub tasks : List ℕ
+  pub names : NamedTasks
 
--- the hash after one more byte, by the 32-bit hash of Fowler, Noll and Vo (FNV-1a)
-abbrev pub mixed : ℕ → ℕ → ℕ
-mixed hash byte = bit_xor hash byte * 16777619 % 2 ^ 32
+-- the setting of a picture that is drawn over this time
+abbrev pub drawn_in : Extent → List ℕ → NamedTasks → PictureSetting
+drawn_in e tasks names = record { extent = e; unit = unit_of_step (axis_step e); tasks = tasks; names = names }
 
--- the hash before any byte
-abbrev pub hash_basis : ℕ
-hash_basis = 2166136261
+-- the setting that a frame gives
+abbrev pub picture_setting : Frame → PictureSetting
+picture_setting f = record { extent = f.scale.extent; unit = f.unit; tasks = f.admitted.now; names = f.names.now }
 
--- the letter of a theme
-abbrev pub theme_letter : Theme → ℕ
-theme_letter Light = 108
-theme_letter Dark = 100
-theme_letter Auto = 97
+-- the number of the colour at a place: the colours go round, one further each time
+abbrev pub colour_at : ℕ → ℕ
+colour_at place = (place % COLOURS + place / COLOURS % COLOURS) % COLOURS
 
--- the hash of what is drawn in a theme
-abbrev pub hash_of : Theme → List ℕ → ℕ
-hash_of theme drawn = fold mixed (mixed hash_basis (theme_letter theme)) drawn
+-- the number of a task's colour, by its place among all tasks of the trace
+abbrev pub colour_of : List ℕ → ℕ → ℕ
+colour_of tasks task = colour_at (unwrap_or (admitted_place tasks task) 0)
 
--- a number in eight hexadecimal digits
-abbrev pub eight_digits : ℕ → List ℕ
-eight_digits n = padded_integral (format_spec 32 0 4 8 (2 ^ 64 - 1)) false [] (digits 16 false n)
+-- the name of a task, cut after this many characters, or its number if it has none
+abbrev pub name_or_number : ℕ → NamedTasks → ℕ → List ℕ
+name_or_number most names task = label_of task (option_map (escaped most) (name_of names task))
 
--- the name of a picture
-abbrev pub picture_name_text : ℕ → List ℕ
-picture_name_text hash = codes "bqsim-" ++ eight_digits hash
+-- the whole name of a task, or its number if it has none
+abbrev pub whole_name : PictureSetting → ℕ → List ℕ
+whole_name s task = name_or_number (2 ^ 64 - 1) s.names task
 
--- ---- its root
+-- how many characters the name of a task has; 9 if it has no name
+abbrev pub name_length : NamedTasks → ℕ → ℕ
+name_length names task = unwrap_or (option_map (λ name. length (chars name)) (name_of names task)) 9
 
--- the beginning of the root, by the name and the height of the picture
-abbrev pub root_text : List ℕ → ℕ → List ℕ
-root_text name height =
-    (codes "<svg xmlns=\"http://www.w3.org/2000/svg\" class=\"" ++ (name ++ (codes "\" width=\"" ++ (decimal page_width ++ (codes "\" height=\""
-    ++ (decimal height ++ codes "\""))))))
-    ++ (codes " viewBox=\"0 0 " ++ (decimal page_width ++ (codes " " ++ (decimal height ++ codes "\" role=\"img\">\n"))))
-
--- the name of the picture for a reader who does not see it
-abbrev pub root_title : List ℕ → List ℕ
-root_title title = codes "<title>" ++ (escaped (2 ^ 64 - 1) title ++ codes "</title>\n")
+-- the width that a name needs, in hundredths: ten units for each character, and ten more
+abbrev pub label_width : NamedTasks → ℕ → ℕ
+label_width names task = saturating_sum (min (name_length names task * 1000) (2 ^ 64 - 1)) 1000

@@ -5,9 +5,10 @@ use Rattle.std.specs.Option.{option_map}
 use Rattle.bq_words.specs.declared.discipline_name.DisciplineName.{DisciplineName}
 use Rattle.bq_words.specs.declared.discipline_name.DisciplineName.TheVariants.{Cfs, Eevdf}
 use Rattle.bq_drawing.specs.declared.picture_options.PictureOptions.{PictureOptions}
-use Rattle.bq_drawing.specs.Places.{left_edge}
-use Rattle.bq_drawing.specs.Shapes.{PictureSetting}
-use Rattle.bq_drawing.specs.Titles.{amount_text, escaped, unit_name}
+use Rattle.bq_drawing.specs.Scales.{left_edge}
+use Rattle.bq_drawing.specs.Frames.{PictureSetting}
+use Rattle.bq_drawing.specs.Escapes.{escaped}
+use Rattle.bq_drawing.specs.Units.{amount_text, unit_name}
 
 -- the title of a picture: its own, or a default if it has none
 abbrev pub title_of : PictureOptions → List ℕ

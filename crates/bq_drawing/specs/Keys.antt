@@ -11,9 +11,9 @@ use Rattle.bq_drawing.specs.declared.links.LinkKind.TheVariants.{Migration, Pull
 use Rattle.bq_drawing.specs.Holdings.{Held}
 use Rattle.bq_drawing.specs.Legends.{legend_height, legend_text}
 use Rattle.bq_drawing.specs.Links.{same_kind}
-use Rattle.bq_drawing.specs.Places.{axis_height, row_gap}
+use Rattle.bq_drawing.specs.Scales.{axis_height, row_gap}
 use Rattle.bq_drawing.specs.Rows.{PlacedRow, waits_left_out, wakes_left_out}
-use Rattle.bq_drawing.specs.Shapes.{PictureSetting}
+use Rattle.bq_drawing.specs.Frames.{PictureSetting}
 
 -- the tasks of which something is drawn, by their places among all
 abbrev pub tasks_shown : List ℕ → List ℕ → List ℕ

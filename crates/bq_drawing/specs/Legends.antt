@@ -6,9 +6,8 @@ use Rattle.bq_disc.specs.Counts.{saturating_sum}
 use Rattle.bq_report.specs.Names.{name_of}
 use Rattle.bq_drawing.specs.declared.legend.Key.{Key}
 use Rattle.bq_drawing.specs.Lanes.{most_lanes}
-use Rattle.bq_drawing.specs.Places.{left_edge}
-use Rattle.bq_drawing.specs.Shapes.{PictureSetting, colour_of}
-use Rattle.bq_drawing.specs.Titles.{name_or_number}
+use Rattle.bq_drawing.specs.Scales.{left_edge}
+use Rattle.bq_drawing.specs.Frames.{PictureSetting, colour_of, name_or_number}
 
 -- how many tasks are in a line of the legend
 abbrev pub abreast : ℕ

@@ -6,10 +6,10 @@ use Rattle.bq_disc.specs.Counts.{saturating_sum}
 use Rattle.bq_drawing.specs.declared.links.RowLink.{RowLink}
 use Rattle.bq_drawing.specs.declared.links.LinkKind.{LinkKind}
 use Rattle.bq_drawing.specs.declared.links.LinkKind.TheVariants.{Migration, Pull}
-use Rattle.bq_drawing.specs.Places.{band_height, hundredths, moment_place}
+use Rattle.bq_drawing.specs.Scales.{band_height, hundredths, moment_place}
 use Rattle.bq_drawing.specs.Rows.{PlacedRow, top_at}
-use Rattle.bq_drawing.specs.Shapes.{PictureSetting, colour_of, whole_name}
-use Rattle.bq_drawing.specs.Titles.{amount_text, unit_name}
+use Rattle.bq_drawing.specs.Frames.{PictureSetting, colour_of, whole_name}
+use Rattle.bq_drawing.specs.Units.{amount_text, unit_name}
 
 -- ---- where a line is
 

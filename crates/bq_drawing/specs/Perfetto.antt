@@ -23,7 +23,7 @@ use Rattle.bq_drawing.specs.declared.past_events.Arrows.{Arrows}
 use Rattle.bq_drawing.specs.declared.perfetto.ShownParts.{ShownParts}
 use Rattle.bq_drawing.specs.Events.{act_name, beginning_text, counter_text, end_text, event_track, instant_text, overruled_text, run_event, run_name, run_object, task_args, tracks_text}
 use Rattle.bq_drawing.specs.Runs.{run_ended_by, run_on}
-use Rattle.bq_drawing.specs.Histories.{Past, after_count, after_run, after_start, after_wake, arrows_to, last_run, next_arrow, written_count}
+use Rattle.bq_drawing.specs.PastEvents.{Past, after_count, after_run, after_start, after_wake, arrows_to, last_run, next_arrow, written_count}
 
 -- ---- what of a change is shown
 

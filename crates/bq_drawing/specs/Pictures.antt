@@ -1,5 +1,6 @@
 -- The whole text of a picture.
-use Rattle.std.specs.Prelude.{◌≡◌, ℕ, ◌<◌, ◌≤◌, ◌⊎◌, List, ◌++◌, Option, codes, flat_map}
+use Rattle.std.specs.Prelude.{◌≡◌, ℕ, ◌-◌, ◌^◌, ◌<◌, ◌≤◌, ◌⊎◌, List, ◌++◌, Option, codes, flat_map}
+use Rattle.std.specs.Fmt.{decimal}
 use Rattle.bq_disc.specs.declared.limits.TheConstants.{PROCESSORS, TASKS}
 use Rattle.bq_schedule.specs.Figures.{Figures}
 use Rattle.bq_report.specs.declared.extent.Extent.{Extent}
@@ -9,15 +10,16 @@ use Rattle.bq_report.specs.Names.{NamedTasks}
 use Rattle.bq_words.specs.declared.discipline_name.DisciplineName.{DisciplineName}
 use Rattle.bq_drawing.specs.declared.picture_options.PictureOptions.{PictureOptions}
 use Rattle.bq_drawing.specs.Axes.{axis_text}
-use Rattle.bq_drawing.specs.Frames.{hash_of, picture_name_text, root_text, root_title}
+use Rattle.bq_drawing.specs.Escapes.{escaped}
+use Rattle.bq_drawing.specs.Frames.{PictureSetting, drawn_in}
 use Rattle.bq_drawing.specs.Headings.{heading_text, title_of}
 use Rattle.bq_drawing.specs.Holdings.{Held, HoldsRunners, HoldsWaiting}
 use Rattle.bq_drawing.specs.Keys.{legend_of, picture_height}
 use Rattle.bq_drawing.specs.Links.{links_text}
-use Rattle.bq_drawing.specs.Places.{rows_edge}
+use Rattle.bq_drawing.specs.PictureNames.{hash_of, picture_name_text}
 use Rattle.bq_drawing.specs.Rows.{ArePlaced, PlacedRow, labels_text, drawing_row_text}
-use Rattle.bq_drawing.specs.Shapes.{PictureSetting, drawn_in}
-use Rattle.bq_drawing.specs.Titles.{axis_step}
+use Rattle.bq_drawing.specs.Scales.{page_width, rows_edge}
+use Rattle.bq_drawing.specs.Units.{axis_step}
 
 -- all that is drawn: the heading, the axis, the lines between rows, the rows over them, the names on their runs, and the legend
 pub record IsDrawing (w : Window) (s : PictureSetting) (title : List ℕ) (discipline : Option DisciplineName) (held : Held) (height : ℕ) (text : List ℕ) : Type 0 where
@@ -30,6 +32,17 @@ pub record IsDrawing (w : Window) (s : PictureSetting) (title : List ℕ) (disci
       ++ (links_text s placed held.links
       ++ (flat_map (drawing_row_text s) placed
       ++ (flat_map (labels_text s) placed ++ legend_of s held placed edge))))
+
+-- the beginning of the root, by the name and the height of the picture
+abbrev pub root_text : List ℕ → ℕ → List ℕ
+root_text name height =
+    (codes "<svg xmlns=\"http://www.w3.org/2000/svg\" class=\"" ++ (name ++ (codes "\" width=\"" ++ (decimal page_width ++ (codes "\" height=\""
+    ++ (decimal height ++ codes "\""))))))
+    ++ (codes " viewBox=\"0 0 " ++ (decimal page_width ++ (codes " " ++ (decimal height ++ codes "\" role=\"img\">\n"))))
+
+-- the name of the picture for a reader who does not see it
+abbrev pub root_title : List ℕ → List ℕ
+root_title title = codes "<title>" ++ (escaped (2 ^ 64 - 1) title ++ codes "</title>\n")
 
 -- the head of a picture in which this is drawn: its root, with its name and its size, its title, and the styles of a theme. Nothing is
 -- said here of the styles

@@ -10,8 +10,9 @@ use Rattle.bq_report.specs.Windows.{ShowsProcessor}
 use Rattle.bq_drawing.specs.declared.lanes.TaskInterval.{TaskInterval}
 use Rattle.bq_drawing.specs.declared.shapes.DrawnRun.{DrawnRun}
 use Rattle.bq_drawing.specs.Lanes.{lanes_after, left_out}
-use Rattle.bq_drawing.specs.Places.{band_height, lane_height, level_height, row_gap, rows_edge}
-use Rattle.bq_drawing.specs.Shapes.{PictureSetting, arrow_of, label_text, shapes_text}
+use Rattle.bq_drawing.specs.Scales.{band_height, lane_height, level_height, row_gap, rows_edge}
+use Rattle.bq_drawing.specs.Frames.{PictureSetting}
+use Rattle.bq_drawing.specs.Shapes.{arrow_of, label_text, shapes_text}
 
 -- what is drawn of a processor: its runs, its waits and its wakes, each in the order in which they came
 pub record DrawingRow : Type 0 where

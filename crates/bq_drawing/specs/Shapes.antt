@@ -1,47 +1,15 @@
 -- The shapes of a row: its name, its runs, the waits below them, and the wakes above.
-use Rattle.std.specs.Prelude.{ℕ, ◌+◌, ◌-◌, ◌*◌, ◌/◌, ◌%◌, ◌^◌, List, [], ◌∷◌, ◌++◌, Option, Some, None, chars, codes, flat_map, if◌then◌else◌, length, min, nat_lt, unwrap_or}
+use Rattle.std.specs.Prelude.{ℕ, ◌+◌, ◌-◌, ◌*◌, ◌/◌, List, [], ◌∷◌, ◌++◌, Option, Some, None, codes, flat_map, if◌then◌else◌, nat_lt}
 use Rattle.std.specs.Fmt.{decimal}
-use Rattle.std.specs.Option.{option_map}
 use Rattle.bq_disc.specs.Counts.{saturating_sum}
 use Rattle.bq_report.specs.declared.extent.Extent.{Extent}
-use Rattle.bq_report.specs.Names.{NamedTasks, name_of}
-use Rattle.bq_report.specs.AdmittedTasks.{admitted_place}
-use Rattle.bq_drawing.specs.declared.colours.TheConstants.{COLOURS}
-use Rattle.bq_drawing.specs.declared.frame.Frame.{Frame}
 use Rattle.bq_drawing.specs.declared.lanes.TaskInterval.{TaskInterval}
 use Rattle.bq_drawing.specs.declared.shapes.DrawnRun.{DrawnRun}
 use Rattle.bq_drawing.specs.declared.unit.TimeUnit.{TimeUnit}
+use Rattle.bq_drawing.specs.Frames.{PictureSetting, colour_of, whole_name, label_width}
 use Rattle.bq_drawing.specs.Lanes.{lane_of, lanes_taken}
-use Rattle.bq_drawing.specs.Places.{arrow_time, band_height, hundredths, lane_height, left_edge, level_height, moment_place, time_width, drawn_width}
-use Rattle.bq_drawing.specs.Titles.{amount_text, axis_step, name_or_number, time_text, unit_name, unit_of_step}
-
--- what the shapes of a picture share: the time that it is drawn over, the unit of its times, and the tasks of the trace, in order, with
--- their names
-pub record PictureSetting : Type 0 where
-  pub extent : Extent
-  pub unit : TimeUnit
-  pub tasks : List ℕ
-  pub names : NamedTasks
-
--- the setting of a picture that is drawn over this time
-abbrev pub drawn_in : Extent → List ℕ → NamedTasks → PictureSetting
-drawn_in e tasks names = record { extent = e; unit = unit_of_step (axis_step e); tasks = tasks; names = names }
-
--- the setting that a frame gives
-abbrev pub picture_setting : Frame → PictureSetting
-picture_setting f = record { extent = f.scale.extent; unit = f.unit; tasks = f.admitted.now; names = f.names.now }
-
--- the number of the colour at a place: the colours go round, one further each time
-abbrev pub colour_at : ℕ → ℕ
-colour_at place = (place % COLOURS + place / COLOURS % COLOURS) % COLOURS
-
--- the number of a task's colour, by its place among all tasks of the trace
-abbrev pub colour_of : List ℕ → ℕ → ℕ
-colour_of tasks task = colour_at (unwrap_or (admitted_place tasks task) 0)
-
--- the whole name of a task, or its number if it has none
-abbrev pub whole_name : PictureSetting → ℕ → List ℕ
-whole_name s task = name_or_number (2 ^ 64 - 1) s.names task
+use Rattle.bq_drawing.specs.Scales.{arrow_time, band_height, hundredths, lane_height, left_edge, level_height, moment_place, time_width, drawn_width}
+use Rattle.bq_drawing.specs.Units.{amount_text, time_text, unit_name}
 
 -- ---- the band
 
@@ -172,14 +140,6 @@ shapes_text s number top runs waits wakes =
     band_text top ++ (row_name number top ++ (flat_map (drawn_run_text s top) runs ++ (waits_text s top waits ++ wakes_text s top wakes)))
 
 -- ---- names upon runs
-
--- how many characters the name of a task has; 9 if it has no name
-abbrev pub name_length : NamedTasks → ℕ → ℕ
-name_length names task = unwrap_or (option_map (λ name. length (chars name)) (name_of names task)) 9
-
--- the width that a name needs, in hundredths: ten units for each character, and ten more
-abbrev pub label_width : NamedTasks → ℕ → ℕ
-label_width names task = saturating_sum (min (name_length names task * 1000) (2 ^ 64 - 1)) 1000
 
 -- the width that the number of a task needs, in hundredths: ten units for each digit, and ten more
 abbrev pub number_width : ℕ → ℕ

@@ -14,7 +14,8 @@ use Rattle.bq_drawing.specs.Keys.{has_line}
 use Rattle.bq_drawing.specs.Lanes.{left_out}
 use Rattle.bq_drawing.specs.Links.{links_text}
 use Rattle.bq_drawing.specs.Rows.{ArePlaced, HasRow, IsPlacedRow, PlacedRow, DrawingRow, Rows, labels_text, row_end, drawing_row_of, drawing_row_text, top_at, waits_left_out, wakes_left_out}
-use Rattle.bq_drawing.specs.Shapes.{PictureSetting, arrow_of}
+use Rattle.bq_drawing.specs.Frames.{PictureSetting}
+use Rattle.bq_drawing.specs.Shapes.{arrow_of}
 
 -- one more row is written, below the others
 pub record IsRowWritten (s : PictureSetting) (number : ℕ) (row : DrawingRow) (old new : WrittenRows) : Type 0 where

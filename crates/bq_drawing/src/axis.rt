@@ -1,7 +1,7 @@
 //! The axis of time.
 ghost use Rattle.std.specs.Prelude.{◌≡◌, ◌++◌, OnOk, string_bytes};
 ghost use Rattle.bq_drawing.specs.Axes.{axis_name, axis_text, first_axis_line, grid_count, grid_line, line_at, mark_if};
-ghost use Rattle.bq_drawing.specs.Shapes.{picture_setting};
+ghost use Rattle.bq_drawing.specs.Frames.{picture_setting};
 
 use crate::frame::Frame;
 use crate::scale::{Hundredths, LEFT, Scale, WIDTH};

@@ -8,7 +8,7 @@ ghost use Rattle.bq_drawing.specs.Keys.{has_line, legend_top, tasks_shown};
 ghost use Rattle.bq_drawing.specs.Legends.{legend_height, legend_text};
 ghost use Rattle.bq_drawing.specs.Links.{link_line};
 ghost use Rattle.bq_drawing.specs.Pictures.{IsDrawing};
-ghost use Rattle.bq_drawing.specs.Shapes.{drawn_in, picture_setting};
+ghost use Rattle.bq_drawing.specs.Frames.{drawn_in, picture_setting};
 ghost use Rattle.bq_drawing.specs.Writing.{AreDrawn, IsRowWrittenIf, key_beside};
 
 use crate::axis::{AXIS, write_axis};

@@ -1,6 +1,6 @@
 //! Text within XML.
 ghost use Rattle.std.specs.Prelude.{◌≡◌, ◌++◌, OnOk, option_map, string_bytes};
-ghost use Rattle.bq_drawing.specs.Titles.{escaped, in_place_of, xml_letter};
+ghost use Rattle.bq_drawing.specs.Escapes.{escaped, in_place_of, xml_letter};
 
 use std::alloc::AllocError;
 

@@ -1,7 +1,6 @@
 //! What all shapes of a picture use: the scale of time, the unit, and the colours and names of tasks.
 ghost use Rattle.std.specs.Prelude.{◌≡◌, ◌++◌, OnOk, chars, length, string_bytes};
-ghost use Rattle.bq_drawing.specs.Shapes.{colour_of, label_width, name_length};
-ghost use Rattle.bq_drawing.specs.Titles.{name_or_number};
+ghost use Rattle.bq_drawing.specs.Frames.{colour_of, label_width, name_length, name_or_number};
 
 use crate::colours::COLOURS;
 use crate::escaped::write_escaped;

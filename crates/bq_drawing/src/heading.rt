@@ -1,7 +1,7 @@
 //! The heading of a picture: its title, the discipline, and the time that it is drawn over.
 ghost use Rattle.std.specs.Prelude.{◌≡◌, ◌++◌, OnOk, string_bytes};
 ghost use Rattle.bq_drawing.specs.Headings.{acronym, heading_text, discipline_text, span_text, times_text, title_text};
-ghost use Rattle.bq_drawing.specs.Shapes.{picture_setting};
+ghost use Rattle.bq_drawing.specs.Frames.{picture_setting};
 
 use crate::escaped::write_escaped;
 use crate::frame::Frame;

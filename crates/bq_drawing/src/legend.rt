@@ -1,7 +1,7 @@
 //! The legend: the tasks with their colours, what the shapes mean, and what found no room.
 ghost use Rattle.std.specs.Prelude.{◌≡◌, ◌++◌, OnOk, string_bytes};
 ghost use Rattle.bq_drawing.specs.Legends.{entry_text, key_text, key_top, leaves_out, left_out_text, legend_height, legend_text, migration_key, task_number_text, pull_key, short_name, swatch_text, text_if, wait_key, wake_key};
-ghost use Rattle.bq_drawing.specs.Shapes.{picture_setting};
+ghost use Rattle.bq_drawing.specs.Frames.{picture_setting};
 
 use crate::colours::GREY;
 use crate::frame::Frame;

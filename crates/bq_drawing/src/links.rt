@@ -2,7 +2,7 @@
 ghost use Rattle.std.specs.Prelude.{◌≡◌, ◌++◌, OnOk, codes, string_bytes};
 ghost use Rattle.bq_drawing.specs.declared.links.LinkKind.TheVariants.{Migration, Pull};
 ghost use Rattle.bq_drawing.specs.Links.{act_text, dot_text, link_end, enters_at, head_text, height_left, leaves_at, link_text, link_between, link_title, name_head, same_kind};
-ghost use Rattle.bq_drawing.specs.Shapes.{picture_setting};
+ghost use Rattle.bq_drawing.specs.Frames.{picture_setting};
 
 use crate::frame::Frame;
 use crate::scale::Hundredths;

@@ -1,6 +1,6 @@
 //! What the events of a trace need to know of the events before them.
 ghost use Rattle.std.specs.Prelude.{◌≡◌, IfOk};
-ghost use Rattle.bq_drawing.specs.Histories.{after_count, after_run, after_start, after_wake, arrow_if, arrows_to, last_run, next_arrow, written_count, empty_past, wake_arrow};
+ghost use Rattle.bq_drawing.specs.PastEvents.{after_count, after_run, after_start, after_wake, arrow_if, arrows_to, last_run, next_arrow, written_count, empty_past, wake_arrow};
 
 use bq_disc::limits::TASKS;
 use bq_schedule::Slice;
@@ -36,7 +36,7 @@ pub struct PastEvents {
 }
 
 impl Model for PastEvents {
-    ghost use Rattle.bq_drawing.specs.Histories.{Past};
+    ghost use Rattle.bq_drawing.specs.PastEvents.{Past};
 
     ghost Value = { Past };
 

@@ -9,7 +9,7 @@ ghost use Rattle.bq_report.specs.Reports.{GrowsByPart};
 ghost use Rattle.bq_report.specs.Timehist.{IsShownMigration, IsShownWake};
 ghost use Rattle.bq_report.specs.Windows.{IsShownPart};
 ghost use Rattle.bq_drawing.specs.Events.{act_name, json_text, label_of, run_name, run_object};
-ghost use Rattle.bq_drawing.specs.Histories.{next_arrow, empty_past};
+ghost use Rattle.bq_drawing.specs.PastEvents.{next_arrow, empty_past};
 ghost use Rattle.bq_drawing.specs.Runs.{run_on};
 ghost use Rattle.bq_drawing.specs.Perfetto.{IsPerfettoHead, IsPerfettoOf, IsPerfettoRunner, IsPerfettoTail, ShowsChange, IsShownDecision, IsShownPull, IsShownReading, ShowsMoment, left_run, past_reading, past_start, past_stop, past_wake, perfetto_count, perfetto_end, perfetto_ends, perfetto_ends_if, perfetto_migration, perfetto_overruled, perfetto_pull, perfetto_reading, perfetto_run, perfetto_wake};
 

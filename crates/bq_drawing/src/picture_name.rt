@@ -1,6 +1,6 @@
 //! The name of a picture, which keeps its styles apart from others on a page.
 ghost use Rattle.std.specs.Prelude.{◌≡◌, Some};
-ghost use Rattle.bq_drawing.specs.Frames.{hash_of, mixed, picture_name_text, theme_letter};
+ghost use Rattle.bq_drawing.specs.PictureNames.{hash_of, mixed, picture_name_text, theme_letter};
 
 use crate::theme::Theme;
 use std::fmt;

@@ -2,9 +2,10 @@
 ghost use Rattle.std.specs.Prelude.{◌≡◌, ◌+◌, ◌*◌, ◌++◌, IfOk, OnOk, flat_map, string_bytes};
 ghost use Rattle.bq_disc.specs.Counts.{saturating_sum};
 ghost use Rattle.bq_drawing.specs.Holdings.{row_with_run, row_with_wait, row_with_wake, waking};
-ghost use Rattle.bq_drawing.specs.Places.{band_height, lane_height, level_height, row_gap};
+ghost use Rattle.bq_drawing.specs.Scales.{band_height, lane_height, level_height, row_gap};
 ghost use Rattle.bq_drawing.specs.Rows.{ArePutInOrder, empty_drawing_row};
-ghost use Rattle.bq_drawing.specs.Shapes.{drawn_run_text, label_text, picture_setting};
+ghost use Rattle.bq_drawing.specs.Frames.{picture_setting};
+ghost use Rattle.bq_drawing.specs.Shapes.{drawn_run_text, label_text};
 ghost use Rattle.bq_drawing.specs.Writing.{IsRowWritten};
 
 use crate::frame::Frame;

@@ -2,7 +2,8 @@
 ghost use Rattle.std.specs.Prelude.{◌≡◌, ◌++◌, [], IfOk, OnOk, length, string_bytes};
 ghost use Rattle.bq_disc.specs.Counts.{saturating_sum};
 ghost use Rattle.bq_drawing.specs.Lanes.{lanes_after, left_out, without_lane};
-ghost use Rattle.bq_drawing.specs.Shapes.{arrow_of, picture_setting, shape_in, wait_in, waits_text, wake_in, wakes_text};
+ghost use Rattle.bq_drawing.specs.Frames.{picture_setting};
+ghost use Rattle.bq_drawing.specs.Shapes.{arrow_of, shape_in, wait_in, waits_text, wake_in, wakes_text};
 
 use crate::frame::Frame;
 use crate::lanes::{Lanes, TaskInterval};

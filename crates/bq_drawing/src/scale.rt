@@ -1,6 +1,6 @@
 //! Where a moment is in the picture.
 ghost use Rattle.std.specs.Prelude.{◌≡◌, Some};
-ghost use Rattle.bq_drawing.specs.Places.{arrow_time, hundredths, moment_place, drawn_width};
+ghost use Rattle.bq_drawing.specs.Scales.{arrow_time, hundredths, moment_place, drawn_width};
 
 use bq_report::Extent;
 use std::fmt;

@@ -1,6 +1,7 @@
 //! The shapes of a row: its name, its runs, the waits below them, and the wakes above.
 ghost use Rattle.std.specs.Prelude.{◌≡◌, ◌++◌, IfOk, OnOk, codes, string_bytes};
-ghost use Rattle.bq_drawing.specs.Shapes.{arrow_text, band_text, hatched_text, label_start, label_text, latency_text, name_upon, number_within, number_width, rectangle_text, row_name, drawn_run_text, run_times, run_title, run_waits, picture_setting, wait_height, wait_text, wait_times, wake_height, drawn_wake_text, wake_time};
+ghost use Rattle.bq_drawing.specs.Frames.{picture_setting};
+ghost use Rattle.bq_drawing.specs.Shapes.{arrow_text, band_text, hatched_text, label_start, label_text, latency_text, name_upon, number_within, number_width, rectangle_text, row_name, drawn_run_text, run_times, run_title, run_waits, wait_height, wait_text, wait_times, wake_height, drawn_wake_text, wake_time};
 
 use crate::frame::Frame;
 use crate::lanes::TaskInterval;

@@ -4,11 +4,11 @@ ghost use Rattle.bq_schedule.specs.Figures.{task_in_figures};
 ghost use Rattle.bq_schedule.specs.Slices.{is_this};
 ghost use Rattle.bq_report.specs.Reports.{GrowsByPart};
 ghost use Rattle.bq_report.specs.AdmittedTasks.{with_admitted};
-ghost use Rattle.bq_drawing.specs.Frames.{picture_name_text, root_text, root_title};
+ghost use Rattle.bq_drawing.specs.PictureNames.{picture_name_text};
+ghost use Rattle.bq_drawing.specs.Pictures.{root_text, root_title, IsDrawnOver, IsHead, IsPicture, IsPictureOf};
 ghost use Rattle.bq_drawing.specs.Holdings.{HoldsChange, HoldsLink, HoldsPull, HoldsRun, HoldsRunners, HoldsStart, HoldsWait, HoldsWaiting, HoldsWake, migration_begin, migration_link, nothing_of, pulled_link, wait_at, wait_before, wait_ended, with_stop};
-ghost use Rattle.bq_drawing.specs.Pictures.{IsDrawnOver, IsHead, IsPicture, IsPictureOf};
 ghost use Rattle.bq_drawing.specs.Runs.{run_ended_by};
-ghost use Rattle.bq_drawing.specs.Shapes.{drawn_in};
+ghost use Rattle.bq_drawing.specs.Frames.{drawn_in};
 
 use crate::drawing::{Drawing, Written};
 use crate::escaped::write_escaped;

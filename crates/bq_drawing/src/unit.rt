@@ -1,6 +1,6 @@
 //! The unit of the times in a picture.
 ghost use Rattle.std.specs.Prelude.{◌≡◌, ◌<◌, Some};
-ghost use Rattle.bq_drawing.specs.Titles.{amount_text, unit_length, unit_name, unit_of_step};
+ghost use Rattle.bq_drawing.specs.Units.{amount_text, unit_length, unit_name, unit_of_step};
 
 use std::fmt;
 

@@ -3,7 +3,7 @@ ghost use Rattle.std.specs.Prelude.{◌≡◌, ◌++◌, OnOk, string_bytes};
 ghost use Rattle.std.specs.BTreeMap.{get};
 ghost use Rattle.std.specs.Ordering.{nat_cmp};
 ghost use Rattle.bq_drawing.specs.Links.{link_line};
-ghost use Rattle.bq_drawing.specs.Shapes.{picture_setting};
+ghost use Rattle.bq_drawing.specs.Frames.{picture_setting};
 
 use crate::frame::Frame;
 use crate::links::{LinkKind, RowLink};

@@ -21,7 +21,7 @@ use Rattle.bq_report.specs.Timehist.{AreLastLines, IsShownMigration, IsShownStop
 use Rattle.bq_report.specs.Windows.{IsShownPart}
 use Rattle.bq_words.specs.declared.discipline_name.DisciplineName.{DisciplineName}
 use Rattle.bq_drawing.specs.declared.picture_options.PictureOptions.{PictureOptions}
-use Rattle.bq_drawing.specs.Histories.{empty_past}
+use Rattle.bq_drawing.specs.PastEvents.{empty_past}
 use Rattle.bq_drawing.specs.Holdings.{HoldsChange, nothing_of}
 use Rattle.bq_drawing.specs.Perfetto.{IsPerfettoHead, IsPerfettoOf, IsPerfettoTail}
 use Rattle.bq_drawing.specs.Pictures.{IsPictureOf}

@@ -1,8 +1,8 @@
 use Rattle.std.proofs.Common.{◌≡◌, List, ℕ, ◌++◌, ◌∙◌, ap, arith, string_bytes}
 use Rattle.bq_disc.specs.Counts.{saturating_sum}
 use Rattle.bq_drawing.specs.Axes.{axis_name, axis_marks_text}
-use Rattle.bq_drawing.specs.Shapes.{picture_setting}
-use Rattle.bq_drawing.specs.Titles.{unit_name}
+use Rattle.bq_drawing.specs.Frames.{picture_setting}
+use Rattle.bq_drawing.specs.Units.{unit_name}
 use Rattle.bq_drawing.proofs.AxisLemmas.{marks_more, marks_none}
 use Rattle.bq_drawing.proofs.PictureLemmas.{last_added}
 use Rattle.bq_drawing.proofs.axis.write_axis.Goals as goal

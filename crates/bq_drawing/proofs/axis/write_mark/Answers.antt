@@ -3,9 +3,9 @@ use Rattle.std.proofs.lemmas.Bool.Decides.{nat_tests}
 use Rattle.std.proofs.lemmas.Result.{on_ok_weaker}
 use Rattle.bq_disc.specs.Counts.{saturating_sum}
 use Rattle.bq_drawing.specs.Axes.{grid_count, grid_line, axis_mark_text}
-use Rattle.bq_drawing.specs.Places.{moment_place}
-use Rattle.bq_drawing.specs.Shapes.{picture_setting}
-use Rattle.bq_drawing.specs.Titles.{unit_length}
+use Rattle.bq_drawing.specs.Scales.{moment_place}
+use Rattle.bq_drawing.specs.Frames.{picture_setting}
+use Rattle.bq_drawing.specs.Units.{unit_length}
 use Rattle.bq_drawing.proofs.PictureLemmas.{both_added}
 use Rattle.bq_drawing.proofs.axis.write_mark.Goals as goal
 

@@ -2,7 +2,7 @@ use Rattle.std.proofs.Common.{List, ℕ, ◌++◌, ◌∙◌, ap, map-id, string
 use Rattle.std.proofs.lemmas.Iterator.{YieldsList-from_chars, YieldsList-from_take}
 use Rattle.std.proofs.lemmas.Iterator.Consumers.{YieldsList-end}
 use Rattle.std.specs.Prelude.{flat_map}
-use Rattle.bq_drawing.specs.Titles.{xml_letter}
+use Rattle.bq_drawing.specs.Escapes.{xml_letter}
 use Rattle.bq_drawing.proofs.PictureLemmas.{letters_more}
 use Rattle.bq_drawing.proofs.escaped.write_escaped.Goals as goal
 

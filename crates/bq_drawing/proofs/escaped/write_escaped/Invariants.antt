@@ -1,6 +1,6 @@
 use Rattle.std.proofs.Common.{◌≡◌, ◌++◌}
 use Rattle.std.specs.Prelude.{flat_map, string_bytes}
-use Rattle.bq_drawing.specs.Titles.{xml_letter}
+use Rattle.bq_drawing.specs.Escapes.{xml_letter}
 use Rattle.bq_drawing.proofs.escaped.write_escaped.Given as goal
 
 -- the characters before this one are written

@@ -3,7 +3,7 @@ use Rattle.std.proofs.lemmas.List.{drop_all}
 use Rattle.std.proofs.lemmas.Result.{on_ok_weaker}
 use Rattle.bq_disc.specs.Counts.{saturating_sum}
 use Rattle.bq_drawing.specs.Legends.{entries_text, key_text, key_top, leaves_out, left_out_text, line_height, text_if}
-use Rattle.bq_drawing.specs.Shapes.{picture_setting}
+use Rattle.bq_drawing.specs.Frames.{picture_setting}
 use Rattle.bq_drawing.proofs.LegendLemmas.{entries_end, entries_next}
 use Rattle.bq_drawing.proofs.PictureLemmas.{both_added}
 use Rattle.bq_drawing.proofs.legend.write_legend.Goals as goal

@@ -1,7 +1,7 @@
 use Rattle.std.proofs.Common.{◌≡◌, ◌++◌, drop}
 use Rattle.std.specs.Prelude.{string_bytes}
 use Rattle.bq_drawing.specs.Legends.{entries_text}
-use Rattle.bq_drawing.specs.Shapes.{picture_setting}
+use Rattle.bq_drawing.specs.Frames.{picture_setting}
 use Rattle.bq_drawing.proofs.legend.write_legend.Given as goal
 
 -- the tasks that are left complete the text

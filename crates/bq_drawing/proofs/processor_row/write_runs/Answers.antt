@@ -1,5 +1,6 @@
 use Rattle.std.proofs.lemmas.List.{drop_all}
-use Rattle.bq_drawing.specs.Shapes.{drawn_run_text, picture_setting}
+use Rattle.bq_drawing.specs.Frames.{picture_setting}
+use Rattle.bq_drawing.specs.Shapes.{drawn_run_text}
 use Rattle.bq_drawing.proofs.PictureLemmas.{shapes_end, shapes_next}
 use Rattle.bq_drawing.proofs.processor_row.write_runs.Goals as goal
 

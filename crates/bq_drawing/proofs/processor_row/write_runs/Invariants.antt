@@ -1,6 +1,7 @@
 use Rattle.std.proofs.Common.{◌≡◌, ◌++◌, drop}
 use Rattle.std.specs.Prelude.{flat_map, string_bytes}
-use Rattle.bq_drawing.specs.Shapes.{drawn_run_text, picture_setting}
+use Rattle.bq_drawing.specs.Frames.{picture_setting}
+use Rattle.bq_drawing.specs.Shapes.{drawn_run_text}
 use Rattle.bq_drawing.proofs.processor_row.write_runs.Given as goal
 
 -- the runs that are left complete the text

@@ -2,7 +2,8 @@ use Rattle.std.proofs.Common.{◌∙◌, ap, refl, arith}
 use Rattle.std.proofs.lemmas.List.{drop_all}
 use Rattle.bq_disc.specs.Counts.{saturating_sum}
 use Rattle.bq_drawing.specs.declared.lanes.TaskInterval.{TaskInterval}
-use Rattle.bq_drawing.specs.Shapes.{picture_setting, wait_in}
+use Rattle.bq_drawing.specs.Frames.{picture_setting}
+use Rattle.bq_drawing.specs.Shapes.{wait_in}
 use Rattle.bq_drawing.proofs.PictureLemmas.{lanes_end, lanes_next}
 use Rattle.bq_drawing.proofs.PlacedLemmas.{lanes_all, lanes_more, left_all, left_more}
 use Rattle.bq_drawing.proofs.row_lanes.draw_waits.Goals as goal

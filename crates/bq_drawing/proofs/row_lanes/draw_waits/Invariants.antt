@@ -3,7 +3,8 @@ use Rattle.std.specs.Prelude.{string_bytes}
 use Rattle.bq_disc.specs.Counts.{saturating_sum}
 use Rattle.bq_drawing.specs.declared.lanes.TaskInterval.{TaskInterval}
 use Rattle.bq_drawing.specs.Lanes.{lanes_after, left_out}
-use Rattle.bq_drawing.specs.Shapes.{in_lanes, picture_setting, wait_in, waits_text}
+use Rattle.bq_drawing.specs.Frames.{picture_setting}
+use Rattle.bq_drawing.specs.Shapes.{in_lanes, wait_in, waits_text}
 use Rattle.bq_drawing.proofs.row_lanes.draw_waits.Given as goal
 
 -- the waits that are left complete the text, their lanes, and how many find none

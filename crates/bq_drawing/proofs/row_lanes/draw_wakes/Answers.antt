@@ -1,7 +1,8 @@
 use Rattle.std.proofs.Common.{◌∙◌, ap, arith}
 use Rattle.std.proofs.lemmas.List.{drop_all}
 use Rattle.bq_disc.specs.Counts.{saturating_sum}
-use Rattle.bq_drawing.specs.Shapes.{arrow_of, picture_setting, wake_in}
+use Rattle.bq_drawing.specs.Frames.{picture_setting}
+use Rattle.bq_drawing.specs.Shapes.{arrow_of, wake_in}
 use Rattle.bq_drawing.proofs.PictureLemmas.{lanes_end, lanes_next}
 use Rattle.bq_drawing.proofs.PlacedLemmas.{left_all, left_more}
 use Rattle.bq_drawing.proofs.row_lanes.draw_wakes.Goals as goal

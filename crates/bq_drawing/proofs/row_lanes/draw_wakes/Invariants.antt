@@ -2,7 +2,8 @@ use Rattle.std.proofs.Common.{◌≡◌, ◌<◌, ◌^◌, [], ◌++◌, drop}
 use Rattle.std.specs.Prelude.{string_bytes}
 use Rattle.bq_disc.specs.Counts.{saturating_sum}
 use Rattle.bq_drawing.specs.Lanes.{left_out}
-use Rattle.bq_drawing.specs.Shapes.{arrow_of, in_lanes, picture_setting, wake_in, wakes_text}
+use Rattle.bq_drawing.specs.Frames.{picture_setting}
+use Rattle.bq_drawing.specs.Shapes.{arrow_of, in_lanes, wake_in, wakes_text}
 use Rattle.bq_drawing.proofs.row_lanes.draw_wakes.Given as goal
 
 -- the wakes that are left complete the text, and how many find no level

@@ -1,6 +1,7 @@
 use Rattle.std.proofs.Common.{List, ℕ, ◌++◌, ◌∙◌, ap, string_bytes}
 use Rattle.std.specs.Prelude.{codes}
-use Rattle.bq_drawing.specs.Shapes.{rectangle_text, run_title, picture_setting}
+use Rattle.bq_drawing.specs.Frames.{picture_setting}
+use Rattle.bq_drawing.specs.Shapes.{rectangle_text, run_title}
 use Rattle.bq_drawing.proofs.PictureLemmas.{last_added}
 use Rattle.bq_drawing.proofs.shapes.write_run.Goals as goal
 

@@ -3,7 +3,7 @@ use Rattle.std.proofs.lemmas.Result.{on_ok_weaker}
 use Rattle.std.specs.Prelude.{codes}
 use Rattle.bq_drawing.specs.declared.unit.Amount.{Amount}
 use Rattle.bq_drawing.specs.Shapes.{latency_text}
-use Rattle.bq_drawing.specs.Titles.{amount_text, unit_name}
+use Rattle.bq_drawing.specs.Units.{amount_text, unit_name}
 use Rattle.bq_drawing.proofs.PictureLemmas.{both_added}
 use Rattle.bq_drawing.proofs.shapes.write_run_waits.Goals as goal
 

@@ -1,8 +1,9 @@
 use Rattle.std.proofs.Common.{List, ℕ, ◌++◌, ◌∙◌, ap, string_bytes}
 use Rattle.std.specs.Prelude.{codes}
 use Rattle.bq_drawing.specs.declared.unit.Amount.{Amount}
-use Rattle.bq_drawing.specs.Shapes.{picture_setting, wake_time}
-use Rattle.bq_drawing.specs.Titles.{amount_text}
+use Rattle.bq_drawing.specs.Frames.{picture_setting}
+use Rattle.bq_drawing.specs.Shapes.{wake_time}
+use Rattle.bq_drawing.specs.Units.{amount_text}
 use Rattle.bq_drawing.proofs.PictureLemmas.{added_as}
 use Rattle.bq_drawing.proofs.shapes.write_wake_time.Goals as goal
 

@@ -1,5 +1,6 @@
 use Rattle.std.proofs.Common.{◌≡◌, List, ℕ, ◌++◌, ◌∙◌, ap, string_bytes}
-use Rattle.bq_drawing.specs.Frames.{hash_of, picture_name_text, root_text, root_title}
+use Rattle.bq_drawing.specs.PictureNames.{hash_of, picture_name_text}
+use Rattle.bq_drawing.specs.Pictures.{root_text, root_title}
 use Rattle.bq_drawing.specs.Headings.{title_of}
 use Rattle.bq_drawing.proofs.PictureLemmas.{both_added}
 use Rattle.bq_drawing.proofs.svg.head_of.Goals as goal

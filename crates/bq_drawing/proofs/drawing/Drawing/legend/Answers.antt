@@ -2,7 +2,7 @@ use Rattle.std.proofs.Common.{List, ℕ, ◌++◌, ◌∙◌, ap}
 use Rattle.bq_drawing.specs.declared.legend.Key.{Key}
 use Rattle.bq_drawing.specs.Keys.{tasks_shown}
 use Rattle.bq_drawing.specs.Legends.{legend_text}
-use Rattle.bq_drawing.specs.Shapes.{picture_setting}
+use Rattle.bq_drawing.specs.Frames.{picture_setting}
 use Rattle.bq_drawing.specs.Writing.{key_beside}
 use Rattle.bq_drawing.proofs.drawing.Drawing.legend.Goals as goal
 

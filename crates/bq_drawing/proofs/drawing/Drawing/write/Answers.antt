@@ -6,9 +6,9 @@ use Rattle.bq_drawing.specs.Axes.{axis_text}
 use Rattle.bq_drawing.specs.Headings.{heading_text}
 use Rattle.bq_drawing.specs.Keys.{legend_top, tasks_shown}
 use Rattle.bq_drawing.specs.Legends.{legend_text}
-use Rattle.bq_drawing.specs.Places.{rows_edge}
-use Rattle.bq_drawing.specs.Shapes.{drawn_in}
-use Rattle.bq_drawing.specs.Titles.{axis_step, unit_of_step}
+use Rattle.bq_drawing.specs.Scales.{rows_edge}
+use Rattle.bq_drawing.specs.Frames.{drawn_in}
+use Rattle.bq_drawing.specs.Units.{axis_step, unit_of_step}
 use Rattle.bq_drawing.specs.Writing.{AreDrawn, key_beside}
 use Rattle.bq_drawing.proofs.PictureLemmas.{drawing_whole}
 use Rattle.bq_drawing.proofs.drawing.Drawing.write.Goals as goal

@@ -6,7 +6,7 @@ use Rattle.std.specs.Prelude.{flat_map}
 use Rattle.bq_drawing.specs.declared.written_rows.WrittenRows.{WrittenRows}
 use Rattle.bq_drawing.specs.declared.links.RowLink.{RowLink}
 use Rattle.bq_drawing.specs.Links.{link_line}
-use Rattle.bq_drawing.specs.Shapes.{picture_setting}
+use Rattle.bq_drawing.specs.Frames.{picture_setting}
 use Rattle.bq_drawing.proofs.PictureLemmas.{line_written, shapes_end}
 use Rattle.bq_drawing.proofs.drawing.Drawing.write_links.Goals as goal
 

@@ -3,7 +3,7 @@ use Rattle.std.specs.BTreeMap.{get}
 use Rattle.std.specs.Ordering.{nat_cmp}
 use Rattle.std.specs.Prelude.{flat_map, string_bytes}
 use Rattle.bq_drawing.specs.Links.{link_line}
-use Rattle.bq_drawing.specs.Shapes.{picture_setting}
+use Rattle.bq_drawing.specs.Frames.{picture_setting}
 use Rattle.bq_drawing.proofs.drawing.Drawing.write_links.Given as goal
 
 -- the lines that are left complete the text, and all else stays

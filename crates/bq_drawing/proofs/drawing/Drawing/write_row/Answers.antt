@@ -2,7 +2,7 @@ use Rattle.std.proofs.Common.{rules, ◌≡◌, ◌<◌, length, refl, inr}
 use Rattle.std.proofs.lemmas.Result.{on_ok_weaker}
 use Rattle.bq_report.proofs.ReportLemmas.{test_fails}
 use Rattle.bq_drawing.specs.Rows.{HasRow, drawing_row_of}
-use Rattle.bq_drawing.specs.Shapes.{picture_setting}
+use Rattle.bq_drawing.specs.Frames.{picture_setting}
 use Rattle.bq_drawing.proofs.PictureLemmas.{row_there}
 use Rattle.bq_drawing.proofs.drawing.Drawing.write_row.Goals as goal
 

@@ -1,5 +1,5 @@
 use Rattle.std.proofs.Common.{◌≡◌, ◌∙◌, ap, arith, refl, string_bytes}
-use Rattle.bq_drawing.specs.Shapes.{picture_setting}
+use Rattle.bq_drawing.specs.Frames.{picture_setting}
 use Rattle.bq_drawing.proofs.PlacedLemmas.{drawn_all, lines_stay, rows_next, rows_none}
 use Rattle.bq_drawing.proofs.drawing.Drawing.write_rows.Goals as goal
 

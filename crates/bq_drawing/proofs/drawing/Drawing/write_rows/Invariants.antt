@@ -1,5 +1,5 @@
 use Rattle.std.proofs.Common.{◌≡◌, ◌≤◌, [], string_bytes}
-use Rattle.bq_drawing.specs.Shapes.{picture_setting}
+use Rattle.bq_drawing.specs.Frames.{picture_setting}
 use Rattle.bq_drawing.specs.Writing.{AreWritten}
 use Rattle.bq_drawing.proofs.drawing.Drawing.write_rows.Given as goal
 

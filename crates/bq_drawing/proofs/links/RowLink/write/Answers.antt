@@ -2,8 +2,8 @@ use Rattle.std.proofs.Common.{◌≡◌, ℕ, List, ◌++◌, ◌∙◌, ap, nat
 use Rattle.std.specs.Prelude.{codes}
 use Rattle.std.proofs.lemmas.Result.{on_ok_weaker}
 use Rattle.bq_drawing.specs.Links.{link_end, enters_at, leaves_at, link_text, link_title}
-use Rattle.bq_drawing.specs.Places.{moment_place}
-use Rattle.bq_drawing.specs.Shapes.{colour_of, picture_setting}
+use Rattle.bq_drawing.specs.Scales.{moment_place}
+use Rattle.bq_drawing.specs.Frames.{colour_of, picture_setting}
 use Rattle.bq_drawing.proofs.PictureLemmas.{both_added}
 use Rattle.bq_drawing.proofs.links.RowLink.write.Goals as goal
 

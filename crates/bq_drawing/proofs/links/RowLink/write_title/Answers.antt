@@ -3,8 +3,8 @@ use Rattle.std.proofs.lemmas.Result.{on_ok_weaker}
 use Rattle.std.specs.Prelude.{codes}
 use Rattle.bq_drawing.specs.declared.unit.Amount.{Amount}
 use Rattle.bq_drawing.specs.Links.{act_text, name_head}
-use Rattle.bq_drawing.specs.Shapes.{picture_setting}
-use Rattle.bq_drawing.specs.Titles.{amount_text, unit_name}
+use Rattle.bq_drawing.specs.Frames.{picture_setting}
+use Rattle.bq_drawing.specs.Units.{amount_text, unit_name}
 use Rattle.bq_drawing.proofs.PictureLemmas.{both_added, last_added}
 use Rattle.bq_drawing.proofs.links.RowLink.write_title.Goals as goal
 

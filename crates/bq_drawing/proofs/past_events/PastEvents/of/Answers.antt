@@ -1,7 +1,7 @@
 use Rattle.std.proofs.Common.{◌≡◌, ◌∙◌, ℕ, ap, arith, List, Option, None, replicate}
 use Rattle.bq_schedule.specs.declared.slice.Slice.{Slice}
 use Rattle.bq_drawing.specs.declared.past_events.Arrows.{Arrows}
-use Rattle.bq_drawing.specs.Histories.{Past, no_arrows}
+use Rattle.bq_drawing.specs.PastEvents.{Past, no_arrows}
 use Rattle.bq_drawing.proofs.past_events.PastEvents.of.Goals as goal
 
 same_past : (es fs : List Arrows) (cs ds : List ℕ) (ws vs : List (Option ℕ)) (rs qs : List (Option Slice))

@@ -1,5 +1,5 @@
 use Rattle.std.proofs.Common.{◌≡◌, replicate, None}
-use Rattle.bq_drawing.specs.Histories.{no_arrows}
+use Rattle.bq_drawing.specs.PastEvents.{no_arrows}
 use Rattle.bq_drawing.proofs.past_events.PastEvents.of.Given as goal
 
 abbrev pub invariant-processors : goal.invariant-processors

@@ -1,7 +1,7 @@
 use Rattle.std.proofs.Common.{◌≡◌, ◌∙◌, ap}
 use Rattle.std.proofs.lemmas.Result.{on_ok_weaker}
 use Rattle.bq_drawing.specs.declared.perfetto.Perfetto.{Perfetto}
-use Rattle.bq_drawing.specs.Histories.{Past, empty_past}
+use Rattle.bq_drawing.specs.PastEvents.{Past, empty_past}
 use Rattle.bq_drawing.proofs.perfetto.PerfettoScheduleForm.begin.Goals as goal
 
 same_history : (p : Perfetto) (h k : Past) → h ≡ k → ◌≡◌ {A = Perfetto} (record p { history = h }) (record p { history = k })

@@ -1,7 +1,7 @@
 use Rattle.std.proofs.Common.{List, ℕ, ◌∙◌, ap}
 use Rattle.std.proofs.lemmas.List.{drop_all}
 use Rattle.std.specs.List.{fold}
-use Rattle.bq_drawing.specs.Frames.{hash_basis, hash_of, mixed}
+use Rattle.bq_drawing.specs.PictureNames.{hash_basis, hash_of, mixed}
 use Rattle.bq_drawing.proofs.HashLemmas.{hash_all, hash_more}
 use Rattle.bq_drawing.proofs.picture_name.PictureName.of.Goals as goal
 

@@ -1,6 +1,6 @@
 use Rattle.std.proofs.Common.{◌≡◌, drop}
 use Rattle.std.specs.List.{fold}
-use Rattle.bq_drawing.specs.Frames.{hash_of, mixed}
+use Rattle.bq_drawing.specs.PictureNames.{hash_of, mixed}
 use Rattle.bq_drawing.proofs.picture_name.PictureName.of.Given as goal
 
 -- the bytes that are left complete the hash

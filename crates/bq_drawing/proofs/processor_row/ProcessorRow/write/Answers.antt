@@ -5,7 +5,8 @@ use Rattle.bq_drawing.specs.declared.lanes.TaskInterval.{TaskInterval}
 use Rattle.bq_drawing.specs.declared.shapes.DrawnRun.{DrawnRun}
 use Rattle.bq_drawing.specs.Lanes.{lanes_after, left_out}
 use Rattle.bq_drawing.specs.Rows.{ArePutInOrder, DrawingRow}
-use Rattle.bq_drawing.specs.Shapes.{arrow_of, drawn_run_text, picture_setting, waits_text, wakes_text}
+use Rattle.bq_drawing.specs.Frames.{picture_setting}
+use Rattle.bq_drawing.specs.Shapes.{arrow_of, drawn_run_text, waits_text, wakes_text}
 use Rattle.bq_drawing.proofs.PictureLemmas.{row_written}
 use Rattle.bq_drawing.proofs.processor_row.ProcessorRow.write.Goals as goal
 

@@ -1,6 +1,7 @@
 use Rattle.std.proofs.Common.{◌≡◌, ◌++◌, drop}
 use Rattle.std.specs.Prelude.{flat_map, string_bytes}
-use Rattle.bq_drawing.specs.Shapes.{label_text, picture_setting}
+use Rattle.bq_drawing.specs.Frames.{picture_setting}
+use Rattle.bq_drawing.specs.Shapes.{label_text}
 use Rattle.bq_drawing.proofs.processor_row.ProcessorRow.write_labels.Given as goal
 
 -- the names upon the runs that are left complete the text

@@ -2,7 +2,7 @@ use Rattle.std.proofs.Common.{List, ℕ, ◌++◌, ◌∙◌, ap, string_bytes, 
 use Rattle.std.proofs.lemmas.Result.{on_ok_weaker}
 use Rattle.bq_drawing.specs.Headings.{title_of}
 use Rattle.bq_drawing.specs.Pictures.{IsDrawing}
-use Rattle.bq_drawing.specs.Shapes.{drawn_in}
+use Rattle.bq_drawing.specs.Frames.{drawn_in}
 use Rattle.bq_drawing.proofs.PictureLemmas.{picture_added}
 use Rattle.bq_drawing.proofs.svg.Svg.write.Goals as goal
 

@@ -1,39 +1,11 @@
--- What the shapes of a picture say: names as XML writes them, and times in a unit.
-use Rattle.std.specs.Prelude.{ℕ, ◌-◌, ◌/◌, ◌%◌, ◌==◌, ◌||◌, ◌&&◌, nat_le, nat_lt, Bool, List, ◌++◌, Option, Some, None, chars, codes, encode_utf8, find, flat_map, if◌then◌else◌, take, unwrap_or}
+-- The unit of the times in a picture, and times in it.
+use Rattle.std.specs.Prelude.{ℕ, ◌-◌, ◌/◌, ◌%◌, nat_lt, List, ◌++◌, codes, find, if◌then◌else◌, unwrap_or}
 use Rattle.std.specs.Fmt.{decimal}
-use Rattle.std.specs.Option.{option_map}
 use Rattle.bq_report.specs.declared.extent.Extent.{Extent}
 use Rattle.bq_report.specs.Columns.{zeros}
-use Rattle.bq_report.specs.Names.{NamedTasks, name_of}
 use Rattle.bq_report.specs.Steps.{covers, round_steps}
 use Rattle.bq_drawing.specs.declared.unit.TimeUnit.{TimeUnit}
 use Rattle.bq_drawing.specs.declared.unit.TimeUnit.TheVariants.{Microseconds, Milliseconds, Nanoseconds, Seconds}
-use Rattle.bq_drawing.specs.Events.{label_of}
-
--- whether XML cannot hold a character
-abbrev pub is_barred : ℕ → Bool
-is_barred c = nat_lt c 32 || ((nat_le 127 c && nat_lt c 160) || (c == 65534 || c == 65535))
-
--- what replaces a character that XML does not take as it is
-abbrev pub in_place_of : ℕ → Option (List ℕ)
-in_place_of c =
-    if c == 38 then Some (codes "&amp;")
-    else if c == 60 then Some (codes "&lt;")
-    else if c == 62 then Some (codes "&gt;")
-    else if c == 34 then Some (codes "&quot;")
-    else if is_barred c then Some (codes "?") else None
-
--- a character as XML writes it
-abbrev pub xml_letter : ℕ → List ℕ
-xml_letter c = unwrap_or (in_place_of c) (encode_utf8 c)
-
--- a text as XML writes it, cut after this many characters
-abbrev pub escaped : ℕ → List ℕ → List ℕ
-escaped most text = flat_map xml_letter (take most (chars text))
-
--- the name of a task, cut after this many characters, or its number if it has none
-abbrev pub name_or_number : ℕ → NamedTasks → ℕ → List ℕ
-name_or_number most names task = label_of task (option_map (escaped most) (name_of names task))
 
 -- the unit of times on an axis with steps of this length
 abbrev pub unit_of_step : ℕ → TimeUnit
