@@ -7,7 +7,7 @@ pub trait Clock {
     // The readings that the clock may give at a processor.
     ghost gives: { ℕ → ℕ → Type 0 };
 
-    /// A reading, in nanoseconds.
+    /// Reads the time at a processor, in nanoseconds.
     fn now(&self, processor: u8) -> u64
         ensures { gives processor result };
 }

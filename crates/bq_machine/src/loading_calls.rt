@@ -54,7 +54,8 @@ struct Loading<'a> {
     policy: &'a Option<Policy>,
 }
 
-/// The policy of an image, which must be for this hook; None if there is no image.
+/// Makes the policy of an image, or None if there is no image. Refuses an image that does not load or is for another hook, and
+/// for lack of memory.
 fn policy_of(alloc: Global, hook: Hook, image: Option<&[u8]>) -> Result<Option<Policy>, LoadRefused>
     ensures policy { IfOk result (λ p. IsPolicyOfImage (option_map (λ b. b.now) image.entry) p) }
     ensures hook { IfOk result (λ p. is_for hook p ≡ true) }
@@ -76,7 +77,7 @@ fn policy_of(alloc: Global, hook: Hook, image: Option<&[u8]>) -> Result<Option<P
     }
 }
 
-/// The event that installs a policy, or removes it.
+/// Makes the event that installs a policy, or that removes the installed one if there is none.
 fn install_event(processor: u8, hook: Hook, generation: u64, policy: Option<Policy>) -> Event
     ensures { result ≡ Event.Install processor hook generation policy }
 {

@@ -34,7 +34,7 @@ pub struct Admission {
 }
 
 impl Admission {
-    /// The event by which the task comes.
+    /// Makes the event by which the task comes.
     pub fn event(self) -> Event
         ensures { result ≡ Event.Admit self.task self.nice self.mask self.slice }
     {
@@ -47,7 +47,8 @@ impl Admission {
     }
 }
 
-/// A new task of a machine of this many processors, with room for the record of its admission.
+/// Makes a new task of a machine of this many processors, and room for the record of its admission. Refuses arguments that are
+/// out of range, and for lack of memory.
 fn new_task_with_room(
     alloc: Global,
     room: &mut Room<Record>,
@@ -103,7 +104,7 @@ impl<Q: RunQueue + Drop, K: Clock + Drop, N: Naming + Counting, const P: usize> 
         Ok(self.admit_to_lobby(rt, &mut seat.working, &mut seat.record_room, admission, new))
     }
 
-    /// An admission under the lock of the lobby, from the lock to the record.
+    /// Locks the lobby, puts a new task into it, and records that.
     fn admit_to_lobby<R: Wait>(
         &self,
         rt: &R,
@@ -158,7 +159,7 @@ impl<Q: RunQueue + Drop, K: Clock + Drop, N: Naming + Counting, const P: usize> 
         Ok(self.retire_from_lobby(rt, &mut seat.working, &mut seat.record_room, task))
     }
 
-    /// A retirement under the lock of the lobby, from the lock to the record.
+    /// Locks the lobby, removes a task from it, and records that.
     fn retire_from_lobby<R: Wait>(
         &self,
         rt: &R,

@@ -71,7 +71,7 @@ impl<Q: RunQueue + Drop, K: Clock + Drop, N: Naming + Counting, const P: usize> 
     N,
     P,
 > {
-    /// The value of a counter. It takes no lock and no memory, and is not recorded.
+    /// Reads a counter. It takes no lock and no memory, and is not recorded.
     pub fn counter(&self, seat: &mut MachineSeat<N>, counter: u8) -> u64
         requires { counter < COUNTERS }
         ensures { seat.new ≡ seat.old }

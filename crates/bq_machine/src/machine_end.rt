@@ -19,7 +19,7 @@ impl<Q: RunQueue + Drop, K: Clock + Drop, N: Naming + Counting, const P: usize> 
     N,
     P,
 > {
-    /// Whether these are all seats of the machine, each once. It takes no lock and no memory.
+    /// Returns whether these are all seats of the machine, each once. It takes no lock and no memory.
     pub fn owns(&self, seats: &[MachineSeat<N>]) -> bool
         ensures { IsTrue result ↔ EachOnce self.now.recorder.history.callers seats.now }
     {

@@ -20,7 +20,7 @@ impl<Q: RunQueue + Drop, K: Clock + Drop, N: Naming + Counting, const P: usize> 
     N,
     P,
 > {
-    /// The machine that `N` names, with its seats, numbered from 0. Allocates all locks and seats.
+    /// Makes the machine that `N` names. Returns it with its seats, numbered from 0. Allocates all locks and seats.
     pub fn new(
         alloc: Global,
         clock: K,
@@ -39,8 +39,8 @@ impl<Q: RunQueue + Drop, K: Clock + Drop, N: Naming + Counting, const P: usize> 
         Machine::with_queues(alloc, clock, queues, prepared, unnamed, seat_count)
     }
 
-    /// The machine that `N` names, with its seats, over queues that you hand in: one for each processor, without
-    /// tasks and at the first mark. Allocates all locks and seats.
+    /// Makes the machine that `N` names over queues that you hand in: one for each processor, without tasks and at the first
+    /// mark. Returns it with its seats, numbered from 0. Allocates all locks and seats.
     pub fn with_queues(
         alloc: Global,
         clock: K,

@@ -54,7 +54,7 @@ impl<Q: RunQueue + Drop, K: Clock + Drop, N: Naming + Counting, const P: usize> 
         ))
     }
 
-    /// A pull under the locks of both processors, from the locks to the record.
+    /// Locks both processors, pulls a task from one to the other, and records that.
     fn pull_at<R: Wait>(
         &self,
         rt: &R,

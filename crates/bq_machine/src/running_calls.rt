@@ -54,7 +54,7 @@ impl<Q: RunQueue + Drop, K: Clock + Drop, N: Naming + Counting, const P: usize> 
         ))
     }
 
-    /// A tick under the lock of its processor, from the lock to the record.
+    /// Locks the processor, ticks there, and records that.
     #[inline(always)]
     fn tick_at<R: Wait>(
         &self,
@@ -120,7 +120,7 @@ impl<Q: RunQueue + Drop, K: Clock + Drop, N: Naming + Counting, const P: usize> 
         ))
     }
 
-    /// A drain under the locks of the processor and its inbox, from the locks to the record.
+    /// Locks the processor and its inbox, drains the inbox, and records that.
     fn drain_at<R: Wait>(
         &self,
         rt: &R,
@@ -188,7 +188,7 @@ impl<Q: RunQueue + Drop, K: Clock + Drop, N: Naming + Counting, const P: usize> 
         Ok(self.block_at(rt, &mut seat.working, &mut seat.record_room, processor))
     }
 
-    /// A block under the locks of the processor and the lobby, from the locks to the record.
+    /// Locks the processor and the lobby, blocks the running task, and records that.
     fn block_at<R: Wait>(
         &self,
         rt: &R,

@@ -103,7 +103,7 @@ impl<Q: RunQueue + Drop, K: Clock + Drop, N: Naming + Counting, const P: usize> 
         Ok(self.wake_at(rt, &mut seat.working, processor, task, begin, end))
     }
 
-    /// Both halves of a wake, under the lock of the processor.
+    /// Locks the processor, and does both halves of a wake there: it begins the wake, and ends it unless the beginning is refused.
     fn wake_at<R: Wait>(
         &self,
         rt: &R,
@@ -135,7 +135,7 @@ impl<Q: RunQueue + Drop, K: Clock + Drop, N: Naming + Counting, const P: usize> 
         }
     }
 
-    /// The first half of a wake. It locks the lobby, and unlocks it.
+    /// Locks the lobby, takes the task from it into the hand, and records that. Unlocks the lobby.
     fn begin_in_lobby<R: Wait>(
         &self,
         rt: &R,
@@ -177,7 +177,7 @@ impl<Q: RunQueue + Drop, K: Clock + Drop, N: Naming + Counting, const P: usize> 
         working.commit_two(&self.recorder.history, journal, cpu, &mut lobby.cell, draft)
     }
 
-    /// The second half of a wake: the task in the hand is placed. It locks the inbox that is chosen, and unlocks it.
+    /// Places the task in the hand: locks the inbox that is chosen, puts the task there, and records that. Unlocks the inbox.
     fn end_in_inbox<R: Wait>(
         &self,
         rt: &R,

@@ -54,7 +54,7 @@ impl Tally {
         true
     }
 
-    /// Whether all answers were seen, and the counter was read once.
+    /// Returns whether all answers were seen, and the counter was read once.
     fn is_whole(&self) -> bool {
         for one in &self.seen {
             if !*one {

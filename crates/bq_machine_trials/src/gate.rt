@@ -50,7 +50,7 @@ impl Gate {
         self.opened.store(true, Ordering::SeqCst);
     }
 
-    /// Whether a thread is, or was, held, once one has come or `TURNS` turns have gone by.
+    /// Returns whether a thread is, or was, held, once one has come or `TURNS` turns have gone by.
     pub fn is_entered(&self) -> bool {
         for _ in 0..TURNS {
             if self.entered.load(Ordering::SeqCst) {
@@ -61,7 +61,7 @@ impl Gate {
         false
     }
 
-    /// Whether a thread was held, and went on because the gate was opened.
+    /// Returns whether a thread was held, and went on because the gate was opened.
     pub fn was_opened(&self) -> bool {
         self.seen.load(Ordering::SeqCst)
     }

@@ -16,7 +16,7 @@ static LOADS: Script<'static> = Script {
     after: &[],
 };
 
-/// How many events are draws, installs of the first number, and of the second. An install of the first may be refused as older; there
+/// Returns how many events are draws, installs of the first number, and of the second. An install of the first may be refused as older; there
 /// is no other event.
 fn counted(rt: &impl Abort, outcome: &AllPlayed) -> (u32, u32, u32) {
     let closed = &outcome.closed;

@@ -145,7 +145,7 @@ static ROWS: [Row; 4] = [
     ),
 ];
 
-/// Whether the receipt has this place and this answer.
+/// Returns whether the receipt has this place and this answer.
 fn says(receipt: &Receipt<Record>, place: u64, answer: Answer) -> bool {
     let wanted = match answer {
         Answer::Idle => Err(Refusal::Idle),
@@ -166,7 +166,7 @@ fn says(receipt: &Receipt<Record>, place: u64, answer: Answer) -> bool {
     receipt.place == place && receipt.entry.reply.unpack() == wanted
 }
 
-/// Whether the receipts of installs stand behind this place, one after another, and say that each was done.
+/// Returns whether the receipts of installs stand behind this place, one after another, and say that each was done.
 fn are_installed(installs: &[Receipt<Record>], draw: u64) -> bool {
     let mut place = draw;
     for install in installs {
@@ -178,14 +178,14 @@ fn are_installed(installs: &[Receipt<Record>], draw: u64) -> bool {
     true
 }
 
-/// Whether the receipt has this place, and says that this number was drawn.
+/// Returns whether the receipt has this place, and says that this number was drawn.
 fn is_drawn(receipt: &Receipt<Record>, place: u64, number: u64) -> bool {
     let reply = receipt.entry.reply.unpack();
     receipt.place == place
         && matches!(reply, Ok(Reply::Drawn { generation }) if generation == number)
 }
 
-/// Whether the call is answered as it has to be.
+/// Returns whether the call is answered as it has to be.
 fn is_answered<N: Naming + Counting, R: Wait, const P: usize>(
     rt: &R,
     alloc: Global,

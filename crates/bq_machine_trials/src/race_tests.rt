@@ -67,7 +67,7 @@ where
     machine.close(seats)
 }
 
-/// Whether a race has at least `EVENTS` events, and a core goes through them to the same end.
+/// Returns whether a race has at least `EVENTS` events, and a core goes through them to the same end.
 fn is_run_again<Q: RunQueue + Drop + Send, T: Abort + Threads + Wait + Sync>(
     rt: &T,
     alloc: Global,

@@ -46,7 +46,7 @@ impl Recorded<'_> {
         answer
     }
 
-    /// Whether just the recorded calls were made.
+    /// Returns whether just the recorded calls were made.
     fn was_followed(&self) -> bool {
         self.is_same && self.made == self.calls.len()
     }
@@ -68,7 +68,7 @@ impl Board for Recorded<'_> {
     }
 }
 
-/// Whether a core from the start answers each event of the history as the machine did, where the counters answer it as they
+/// Returns whether a core from the start answers each event of the history as the machine did, where the counters answer it as they
 /// did, and ends as the machine did, and the counters are the sums of the adds.
 pub fn is_replayed<Q: RunQueue + Drop>(
     rt: &impl Abort,
@@ -80,7 +80,7 @@ pub fn is_replayed<Q: RunQueue + Drop>(
         && is_same_world(rt, alloc, &mut core, &mut closed.core)
 }
 
-/// Whether a core answers each event of the history so, and the counters are the sums of the adds.
+/// Returns whether a core answers each event of the history so, and the counters are the sums of the adds.
 fn is_followed<Q: RunQueue + Drop>(
     rt: &impl Abort,
     alloc: Global,
@@ -101,7 +101,7 @@ fn is_followed<Q: RunQueue + Drop>(
     sums.as_slice() == closed.counters.as_slice()
 }
 
-/// Whether a core answers an event so, with exactly these calls of counters.
+/// Returns whether a core answers an event so, with exactly these calls of counters.
 fn is_answered_so<Q: RunQueue + Drop>(
     alloc: Global,
     core: &mut Core<Q, 64>,
@@ -134,7 +134,7 @@ fn add_all(sums: &mut [u64; 64], calls: &[CounterCall]) {
     }
 }
 
-/// Whether two cores are shown the same, and answer the last events alike, and are shown the same then.
+/// Returns whether two cores are shown the same, and answer the last events alike, and are shown the same then.
 fn is_same_world<Q: RunQueue + Drop>(
     rt: &impl Abort,
     alloc: Global,
@@ -177,7 +177,7 @@ fn last_event(number: u16) -> Event {
     }
 }
 
-/// Whether two cores answer the last events alike.
+/// Returns whether two cores answer the last events alike.
 fn is_answered_the_same<Q: RunQueue + Drop>(
     alloc: Global,
     core: &mut Core<Q, 64>,
@@ -193,7 +193,7 @@ fn is_answered_the_same<Q: RunQueue + Drop>(
     true
 }
 
-/// Whether the processors of two cores are shown the same, and have policies of the same numbers.
+/// Returns whether the processors of two cores are shown the same, and have policies of the same numbers.
 fn is_shown_the_same<Q: RunQueue + Drop>(
     rt: &impl Abort,
     alloc: Global,

@@ -44,7 +44,7 @@ pub struct AllPlayed {
 }
 
 impl AllPlayed {
-    /// How many receipts stand in the history.
+    /// Returns how many receipts stand in the history.
     pub fn confirmed(&self) -> u64 {
         let mut count = 0u64;
         for list in &self.receipts {
@@ -57,7 +57,7 @@ impl AllPlayed {
         count
     }
 
-    /// Whether each event of the history has a receipt that was given.
+    /// Returns whether each event of the history has a receipt that was given.
     pub fn is_confirmed(&self) -> bool {
         self.confirmed() == self.closed.len()
     }

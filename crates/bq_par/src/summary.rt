@@ -29,7 +29,7 @@ pub struct HistorySummary {
 }
 
 impl HistorySummary {
-    /// The line of text with these numbers.
+    /// Makes the line of text with these numbers.
     pub fn line(&self, alloc: Global) -> Result<String, AllocError>
         ensures { IfOk result (λ t. string_bytes t ≡ summary_line self.now) }
     {
@@ -119,7 +119,7 @@ fn returned<N: Naming + Counting>(
     Ok(ReturnedSeats { seats, lists })
 }
 
-/// How many of the records are of ticks.
+/// Counts the records of ticks.
 fn ticks_among(records: &[&Record]) -> u64
     ensures { result ≡ sum_by (λ r. one_tick r.now) records.now }
 {
@@ -130,7 +130,7 @@ fn ticks_among(records: &[&Record]) -> u64
     ticks
 }
 
-/// How many ticks a record is of: 1 or 0.
+/// Returns how many ticks a record is of: 1 or 0.
 fn ticks_of_one(entry: &Record) -> u64
     ensures is { result ≡ one_tick entry.now }
     ensures few { result ≤ 1 }
@@ -141,7 +141,7 @@ fn ticks_of_one(entry: &Record) -> u64
     }
 }
 
-/// How many receipts of all lists the records confirm.
+/// Counts the receipts of all lists that the records confirm.
 fn confirmed_among(records: &[&Record], lists: &[Vec<Receipt<Record>>]) -> u64
     requires stand { All (λ l. All (IsRecorded (map (λ r. r.now) records.now)) l.items) lists.now }
     requires few { sum_by (λ l. length l.items) lists.now < 2 ^ 64 }
@@ -154,7 +154,7 @@ fn confirmed_among(records: &[&Record], lists: &[Vec<Receipt<Record>>]) -> u64
     confirmed
 }
 
-/// How many receipts of one list the records confirm.
+/// Counts the receipts of one list that the records confirm.
 fn confirmed_in(records: &[&Record], list: &[Receipt<Record>]) -> u64
     requires { All (IsRecorded (map (λ r. r.now) records.now)) list.now }
     ensures { result ≡ length list.now }
@@ -166,7 +166,7 @@ fn confirmed_in(records: &[&Record], list: &[Receipt<Record>]) -> u64
     confirmed
 }
 
-/// Whether the records have the receipt's record at the receipt's place.
+/// Returns whether the records have the receipt's record at the receipt's place.
 fn is_confirmed(records: &[&Record], receipt: &Receipt<Record>) -> bool
     ensures { IsTrue result ↔ IsConfirmed (λ r s. r ≡ s) (map (λ r. r.now) records.now) receipt.now }
 {
@@ -176,7 +176,7 @@ fn is_confirmed(records: &[&Record], receipt: &Receipt<Record>) -> bool
     }
 }
 
-/// The record at a place; None if there are not that many records.
+/// Returns the record at a place, counted from 0; None if there are not that many records.
 fn record_at<'a>(records: &[&'a Record], place: u64) -> Option<&'a Record>
     ensures { option_map (λ r. r.now) result ≡ slice_get (map (λ r. r.now) records.now) place }
 {

@@ -27,14 +27,14 @@ impl Model for Calls {
 impl Calls {
     ghost use Rattle.std.specs.Prelude.{◌↔◌, IsTrue};
 
-    /// A list without calls.
+    /// Makes a list without calls. It takes no memory.
     pub fn none() -> Calls
         ensures { result ≡ [] }
     {
         Calls { list: None }
     }
 
-    /// The calls, in order.
+    /// Returns the calls, in order.
     pub fn as_slice(&self) -> &[CounterCall]
         ensures { result.now ≡ self.now }
     {
@@ -44,7 +44,7 @@ impl Calls {
         }
     }
 
-    /// Whether both have equal calls, with equal answers.
+    /// Returns whether both have equal calls, with equal answers.
     #[inline(always)]
     pub fn is_same(&self, other: &Calls) -> bool
         ensures { IsTrue result ↔ (self.now ≡ other.now) }
@@ -65,7 +65,7 @@ pub struct CallRooms {
 }
 
 impl CallRooms {
-    /// Empty rooms. Only events with calls use them up, so they are seldom made.
+    /// Makes empty rooms. Only events with calls use them up, so they are seldom made.
     #[cold]
     #[inline(never)]
     pub fn new(alloc: Global) -> Result<CallRooms, AllocError> {
@@ -104,6 +104,7 @@ fn filled_twice(rooms: &mut Option<CallRooms>, calls: &[CounterCall]) -> (Calls,
     (filled(record, calls), filled(receipt, calls))
 }
 
+/// Puts these calls into a room, in place of what is there.
 fn filled(room: Box<ArrayVec<CounterCall, MOST_CALLS>>, calls: &[CounterCall]) -> Calls
     requires { length calls.now ≤ MOST_CALLS }
     ensures { result ≡ calls.now }

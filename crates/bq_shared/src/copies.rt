@@ -6,7 +6,7 @@ use bq_installed::Policy;
 use bq_parts::Event;
 use std::alloc::AllocError;
 
-/// A copy of the event. Fails only if the reference count of its policy would overflow.
+/// Copies an event. Fails only if the reference count of its policy would overflow.
 #[inline(always)]
 pub fn copy_event(event: &Event) -> Result<Event, AllocError>
     ensures same { IfOk result (λ again. again ≡ event.now) }
@@ -19,7 +19,7 @@ pub fn copy_event(event: &Event) -> Result<Event, AllocError>
     Ok(event.with_policy(policy))
 }
 
-/// A copy of the policy; None if there is no policy. Fails only if the reference count of the policy would overflow.
+/// Copies a policy; None if there is no policy. Fails only if the reference count of the policy would overflow.
 #[inline(always)]
 pub fn copy_policy(policy: &Option<Policy>) -> Result<Option<Policy>, AllocError>
     ensures same { IfOk result (λ again. again ≡ policy.now) }

@@ -12,7 +12,8 @@ use crate::{CounterAccount, Counters, Counting};
 use bq_bpf::board::COUNTERS;
 use bq_history::{ClosedRecords, History, HolderOf, JournalOf, Naming, World, finish};
 
-/// The records of the history, and the counters: each is the sum of the adds in the history. It takes no memory.
+/// Ends both tables, given all parts and seats. Returns the records of the history, and the counters: each is the sum of the
+/// adds in the history, modulo 2^64. It takes no memory.
 pub fn close<R: ReportsCalls + Drop, M: World<Record = R>, N: Naming + Counting>(
     history: History<M, N>,
     journal: JournalOf<M, N>,
@@ -36,7 +37,7 @@ pub fn close<R: ReportsCalls + Drop, M: World<Record = R>, N: Naming + Counting>
     (log, words)
 }
 
-/// Gives what all seats have to a holder, in their order, and makes one account of theirs.
+/// Gives the callers of all seats to a holder, in their order. Returns the account of all seats.
 fn leave_all<R: ReportsCalls + Drop, M: World<Record = R>, N: Naming + Counting>(
     history: &History<M, N>,
     all: &mut HolderOf<M, N>,

@@ -4,7 +4,7 @@ ghost use Rattle.std.specs.Prelude.{◌≡◌, ◌↔◌, IsTrue};
 use bq_installed::Policy;
 use bq_parts::Event;
 
-/// Whether both events are equal. Policies are equal if what was accepted of them is: instructions, shapes of maps, hook,
+/// Returns whether both events are equal. Policies are equal if what was accepted of them is: instructions, shapes of maps, hook,
 /// version and budget.
 pub fn is_same_event(event: &Event, other: &Event) -> bool
     ensures { IsTrue result ↔ (event.now ≡ other.now) }
@@ -94,7 +94,7 @@ pub fn is_same_event(event: &Event, other: &Event) -> bool
     }
 }
 
-/// Whether both are none, or equal policies.
+/// Returns whether both are none, or equal policies.
 fn same_policy(policy: &Option<Policy>, other: &Option<Policy>) -> bool
     ensures { IsTrue result ↔ (policy.now ≡ other.now) }
 {

@@ -14,7 +14,7 @@ pub struct JournalState {
 }
 
 impl JournalState {
-    /// A copy of what is kept.
+    /// Copies what is kept.
     pub fn copy(&self) -> JournalState
         ensures { result ≡ self.now }
     {
@@ -42,7 +42,7 @@ impl JournalState {
         self.loads.set(index, load);
     }
 
-    /// What is kept after a processor has answered a block, or None if that does not change. Its task has left, unless the
+    /// Returns what is kept after a processor has answered a block, or None if that does not change. Its task has left, unless the
     /// block was refused.
     pub fn after_block(
         &self,
@@ -59,7 +59,7 @@ impl JournalState {
         Some(kept)
     }
 
-    /// What is kept after a processor has answered a pull from another, or None if that does not change. A task has gone
+    /// Returns what is kept after a processor has answered a pull from another, or None if that does not change. A task has gone
     /// from `from` to `processor`, or none has.
     pub fn after_pull(&self, processor: u8, from: u8, reply: &Reply) -> Option<JournalState>
         ensures { kept_after self.now result ≡ kept_by_pull processor from reply.now self.now }

@@ -1,7 +1,6 @@
 //! A seat: a caller of the history with its account of the counters.
 ghost use Rattle.std.specs.Prelude.{◌≡◌, ◌<◌, ◌∷◌, ◌++◌, ℕ, List, []};
 ghost use Rattle.bq_bpf.specs.declared.board.CounterCall.{CounterCall};
-ghost use Rattle.bq_history.specs.declared.shared_state.Receipt.{Receipt as ReceiptValue};
 ghost use Rattle.bq_history.specs.Callers.{receipts_of};
 ghost use Rattle.bq_history.specs.Items.{caller_of};
 ghost use Rattle.bq_shared.specs.Sums.{joined_accounts, fresh_account};

@@ -10,7 +10,7 @@ use crate::{CounterAccount, Counters, Counting};
 use bq_history::{Caller, History, HolderOf, Naming, World};
 use std::alloc::{AllocError, Global};
 
-/// A seat for each caller, numbered from 0. None of them has called anything. The holder must have the callers and nothing
+/// Makes a seat for each caller, numbered from 0. None of them has called anything. The holder must have the callers and nothing
 /// else, and the account must be that of all seats.
 pub fn seats<R: ReportsCalls + Drop, M: World<Record = R>, N: Naming + Counting>(
     alloc: Global,
@@ -32,7 +32,7 @@ pub fn seats<R: ReportsCalls + Drop, M: World<Record = R>, N: Naming + Counting>
     Ok(seats)
 }
 
-/// The seat of the holder's first caller, with an account of its own.
+/// Makes the seat of the holder's first caller, with an account of its own.
 fn next_seat<R: ReportsCalls + Drop, M: World<Record = R>, N: Naming + Counting>(
     history: &History<M, N>,
     all: &mut HolderOf<M, N>,
