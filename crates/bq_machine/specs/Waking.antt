@@ -22,6 +22,6 @@ HoldsItsPart cpu = cpu.holder ≡ part_item (cpu_part cpu.content.number cpu.con
 pub record IsWake (gives : ℕ → Type 0) (processor task : ℕ) (w : WakeReceipts) : Type 0 where
   pub begin : w.begin.entry.event ≡ BeginWake processor task
   pub begun : IfErr w.begin.entry.reply (λ e. (e ≡ no.NoTask) ⊎ (e ≡ no.NotBlocked))
-  pub end : IfSome w.end (RecordsAtReading gives (λ now. EndWake processor now))
+  pub end : IfSome w.end (λ r. RecordsAtReading gives (λ now. EndWake processor now) r)
   pub placed : IfSome w.end (λ r. WasPlaced task r.entry.reply)
   pub ended : IsSome w.end ↔ IsOk w.begin.entry.reply

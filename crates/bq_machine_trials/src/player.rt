@@ -41,7 +41,8 @@ pub struct Player<'a, N: Naming + Counting, R: Abort + Wait> {
 }
 
 impl<'a, N: Naming + Counting, R: Abort + Wait> Player<'a, N, R> {
-    fn keep(&mut self, receipt: Receipt<Record>) {
+    /// Adds a receipt to those that the seat got.
+    fn push_receipt(&mut self, receipt: Receipt<Record>) {
         self.receipts.push(receipt).expect(self.rt, "memory");
     }
 
@@ -50,9 +51,9 @@ impl<'a, N: Naming + Counting, R: Abort + Wait> Player<'a, N, R> {
         let answer = call(self.rt, self.alloc, self.machine, &mut self.seat, request);
         let Receipts { first, second } = answer.expect(self.rt, "a call was refused");
         let place = first.place;
-        self.keep(first);
+        self.push_receipt(first);
         if let Some(second) = second {
-            self.keep(second);
+            self.push_receipt(second);
         }
         place
     }
@@ -78,9 +79,9 @@ impl<'a, N: Naming + Counting, R: Abort + Wait> Player<'a, N, R> {
         else {
             panic!(self.rt; "a load was refused")
         };
-        self.keep(loaded.draw);
+        self.push_receipt(loaded.draw);
         for install in loaded.installs {
-            self.keep(install);
+            self.push_receipt(install);
         }
     }
 

@@ -72,7 +72,7 @@ fn tick_all<Q: RunQueue + Drop, K: Clock + Drop, N: Naming + Counting, R: Wait, 
     let Duty { processor, ticks } = *duty;
     'ticks: for _ in 0..ticks {
         let ticked = machine.tick(rt, alloc, seat, processor)?;
-        keep(receipts, ticked)?;
+        push_receipt(receipts, ticked)?;
     }
     Ok(())
 }
@@ -99,28 +99,34 @@ fn start<Q: RunQueue + Drop, K: Clock + Drop, N: Naming + Counting, R: Wait, con
         slice: DEFAULT_SLICE,
     };
     let admitted = machine.admit(rt, alloc, seat, admission)?;
-    keep(receipts, admitted)?;
+    push_receipt(receipts, admitted)?;
     let woken = machine.wake(rt, alloc, seat, processor, task)?;
-    keep_wake(receipts, woken)?;
+    push_wake_receipts(receipts, woken)?;
     let drained = machine.drain(rt, alloc, seat, processor)?;
-    keep(receipts, drained)
+    push_receipt(receipts, drained)
 }
 
-/// Adds the receipts of a wake to a list.
-fn keep_wake(receipts: &mut Vec<Receipt<Record>>, woken: WakeReceipts) -> Result<(), Refusal>
+/// Adds the receipts of a wake to a list, in order. The error is that memory ran out.
+fn push_wake_receipts(
+    receipts: &mut Vec<Receipt<Record>>,
+    woken: WakeReceipts,
+) -> Result<(), Refusal>
     ensures { OnOk result (receipts.new.items ≡ (receipts.old.items ++ woken.begin ∷ []) ++ option_to_list woken.end) }
 {
     let WakeReceipts { begin, end } = woken;
-    keep(receipts, begin)?;
+    push_receipt(receipts, begin)?;
     match end {
-        Some(end) => keep(receipts, end),
+        Some(end) => push_receipt(receipts, end),
         None => Ok(()),
     }
 }
 
-/// Adds a receipt to a list.
+/// Adds a receipt to a list. The error is that memory ran out.
 #[inline(always)]
-fn keep(receipts: &mut Vec<Receipt<Record>>, receipt: Receipt<Record>) -> Result<(), Refusal>
+fn push_receipt(
+    receipts: &mut Vec<Receipt<Record>>,
+    receipt: Receipt<Record>,
+) -> Result<(), Refusal>
     ensures { OnOk result (receipts.new.items ≡ receipts.old.items ++ receipt ∷ []) }
 {
     if receipts.reserve(1).is_err() {

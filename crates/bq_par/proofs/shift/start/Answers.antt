@@ -11,10 +11,10 @@ returns-clause-start g c =
     let woken = c.in_ok-woken.woken in
     let drained = c.in_ok-drained.ensures.event in
     let same : c.from-task.result ≡ p = search rules in
-    on_ok_weaker c.keep-2.result (λ last.
+    on_ok_weaker c.push_receipt-2.result (λ last.
     start_is p _ _ _ _ c.in_ok-admitted.admitted woken.begin c.in_ok-drained.drained
-    woken.end c.requires.none c.in_ok-keep.ensures c.in_ok-keep_wake.ensures last
+    woken.end c.requires.none c.in_ok-push_receipt.ensures c.in_ok-push_wake_receipts.ensures last
     (c.in_ok-admitted.ensures.event ∙ ap (λ t. Admit t (pos 0) (2 ^ 64 - 1) 3000000) same)
     (c.in_ok-woken.ensures.wake.begin ∙ ap (λ t. BeginWake p t) same)
     (woken_there p _ woken.end c.in_ok-woken.ensures.wake.end) c.in_ok-woken.ensures.wake.ended (drained.0, drained.2))
-    c.keep-2.ensures
+    c.push_receipt-2.ensures

@@ -12,6 +12,6 @@ ticks-preserved g c =
     record {
       held = search rules;
       ticked =
-          rw c.in_ok-keep.ensures (one_more c.args.duty.now.processor c.ticks.counter c.args.receipts.now.items
+          rw c.in_ok-push_receipt.ensures (one_more c.args.duty.now.processor c.ticks.counter c.args.receipts.now.items
           c.ticks.receipts.items c.in_ok-ticked.ticked (event.0, event.2) c.ticks.invariant.ticked);
     }
