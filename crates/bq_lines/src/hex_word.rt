@@ -18,14 +18,14 @@ impl<'a> Model for HexWord<'a> {
 }
 
 impl<'a> HexWord<'a> {
-    /// The word of these bytes.
+    /// Makes the word of these bytes.
     pub fn new(word: &'a [u8]) -> HexWord<'a>
         ensures { result ≡ word.now }
     {
         HexWord { word }
     }
 
-    /// The bytes of the word.
+    /// Returns the bytes of the word.
     pub fn as_bytes(&self) -> &'a [u8]
         ensures { result.now ≡ self.now }
     {

@@ -51,7 +51,7 @@ macro_rules! with_first_line {
 }
 
 impl Keyword {
-    /// The word itself, such as `tick`.
+    /// Returns the word itself, such as `tick`.
     #[inline(always)]
     pub fn word(self) -> &'static str
         ensures { result.now ≡ keyword_word self }
@@ -74,7 +74,7 @@ impl Keyword {
         }
     }
 
-    /// Whether a word is the word of this keyword.
+    /// Returns whether a word is the word of this keyword.
     #[inline(always)]
     fn is_word(self, word: &[u8]) -> bool
         ensures { result ≡ bytes_eq word.now (keyword_word self) }
@@ -82,7 +82,7 @@ impl Keyword {
         word == self.word().as_bytes()
     }
 
-    /// The keyword that a word is, if it is one.
+    /// Returns the keyword that a word is, if it is one.
     #[inline(always)]
     pub fn of_word(word: &[u8]) -> Option<Keyword>
         ensures { result ≡ keyword_of word.now }
@@ -106,7 +106,7 @@ impl Keyword {
         }
     }
 
-    /// The other half of `of_word`: the keywords that few lines have.
+    /// Returns the keyword that a word is, of those that few lines have: the other half of `of_word`.
     #[inline(always)]
     fn of_setting_word(word: &[u8]) -> Option<Keyword>
         ensures { result ≡ setting_keyword_of word.now }
@@ -130,7 +130,7 @@ impl Keyword {
         }
     }
 
-    /// The keyword of the line that asks for an event.
+    /// Returns the keyword of the line that asks for an event.
     pub fn of_event(event: &Event) -> Keyword
         ensures { result ≡ keyword_of_event event.now }
     {

@@ -19,7 +19,8 @@ use bq_words::{
 /// The most bytes of a line.
 pub const LONGEST: usize = 131_072;
 
-/// What a line says. `line` comes without its line feed, and without the CR before that.
+/// Reads a line, which comes without its line feed, and without the CR before that. A line of more than 131,072 bytes is
+/// `Bad`, and so is one with a byte that no line may have.
 #[tactic(auto, unfolding(crate::specs::Lines::reading_of))]
 pub fn read_line(line: &[u8]) -> LineReading<'_>
     ensures { result ≡ reading_of line.now }
@@ -30,7 +31,7 @@ pub fn read_line(line: &[u8]) -> LineReading<'_>
     read_words(line)
 }
 
-/// What a line says, by what was kept of it. `None` is a line that was too long.
+/// Reads a line by what was kept of it. `None` is a line that was too long, which is `Bad`.
 pub fn read_short_line(short_line: Option<&[u8]>) -> LineReading<'_>
     ensures { result ≡ reading_of_short_line (option_map (λ (l : Bor (List ℕ)). l.now) short_line.entry) }
 {
@@ -40,7 +41,7 @@ pub fn read_short_line(short_line: Option<&[u8]>) -> LineReading<'_>
     }
 }
 
-/// What a line of allowed bytes says.
+/// Reads a line of allowed bytes.
 fn read_words(line: &[u8]) -> LineReading<'_>
     ensures { result ≡ reading_of_words (words line.now) }
 {
@@ -53,8 +54,8 @@ fn read_words(line: &[u8]) -> LineReading<'_>
     command(name, operands)
 }
 
-/// What the name of a command and the words after it say. Each arm builds its own `LineReading`: one return for all would copy
-/// a large value for every line.
+/// Reads the command of this name, by the words after the name. Each arm builds its own `LineReading`: one return for all
+/// would copy a large value for every line.
 fn command<'a>(name: &[u8], operands: &'a [u8]) -> LineReading<'a>
     ensures { result ≡ reading_of_command (command_of name.now (words operands.now)) }
 {
@@ -77,7 +78,7 @@ fn command<'a>(name: &[u8], operands: &'a [u8]) -> LineReading<'a>
     }
 }
 
-/// A discipline and a number of processors.
+/// Reads a discipline and a number of processors.
 fn machine_words(operands: &[u8]) -> Option<(DisciplineName, ProcessorCount)>
     ensures { result ≡ machine_words (words operands.now) }
 {
@@ -87,7 +88,7 @@ fn machine_words(operands: &[u8]) -> Option<(DisciplineName, ProcessorCount)>
     }
 }
 
-/// A task, its nice value, its mask and its slice.
+/// Reads a task, its nice value, its mask and its slice.
 fn admit_words(operands: &[u8]) -> Option<(u16, i8, u64, u64)>
     ensures { result ≡ admit_words (words operands.now) }
 {
@@ -99,7 +100,7 @@ fn admit_words(operands: &[u8]) -> Option<(u16, i8, u64, u64)>
     Some((task, nice, mask, slice))
 }
 
-/// A processor, a generation, a hook, and the word that spells an image.
+/// Reads a processor, a generation, a hook, and the word that spells an image.
 fn install_words(operands: &[u8]) -> Option<(u8, u64, Hook, &[u8])>
     ensures { option_map (λ w. (w.0, w.1, w.2, w.3.now)) result ≡ install_words (words operands.now) }
 {
@@ -110,7 +111,7 @@ fn install_words(operands: &[u8]) -> Option<(u8, u64, Hook, &[u8])>
     Some((processor, generation, hook, image))
 }
 
-/// A task.
+/// Reads a task.
 fn one_task(operands: &[u8]) -> Option<u16>
     ensures { result ≡ one_task (words operands.now) }
 {
@@ -120,7 +121,7 @@ fn one_task(operands: &[u8]) -> Option<u16>
     }
 }
 
-/// A processor, or a counter.
+/// Reads a processor, or a counter.
 fn one_number(operands: &[u8]) -> Option<u8>
     ensures { result ≡ one_number (words operands.now) }
 {
@@ -130,7 +131,7 @@ fn one_number(operands: &[u8]) -> Option<u8>
     }
 }
 
-/// A processor and a task.
+/// Reads a processor and a task.
 fn processor_and_task(operands: &[u8]) -> Option<(u8, u16)>
     ensures { result ≡ processor_and_task (words operands.now) }
 {
@@ -140,8 +141,8 @@ fn processor_and_task(operands: &[u8]) -> Option<(u8, u16)>
     }
 }
 
-/// A processor and a clock reading, which most lines of a trace have. The words are read one after the other, which takes a
-/// fifth fewer instructions than pairing both readings.
+/// Reads a processor and a clock reading, which most lines of a trace have. The words are read one after the other, which
+/// takes a fifth fewer instructions than pairing both readings.
 fn processor_and_time(operands: &[u8]) -> Option<(u8, u64)>
     ensures { result ≡ processor_and_time (words operands.now) }
 {
@@ -151,7 +152,7 @@ fn processor_and_time(operands: &[u8]) -> Option<(u8, u64)>
     Some((processor, now))
 }
 
-/// A processor, a task and a clock reading. The words are read one after the other, as in `processor_and_time`.
+/// Reads a processor, a task and a clock reading. The words are read one after the other, as in `processor_and_time`.
 fn wake_words(operands: &[u8]) -> Option<(u8, u16, u64)>
     ensures { result ≡ wake_words (words operands.now) }
 {
@@ -162,7 +163,7 @@ fn wake_words(operands: &[u8]) -> Option<(u8, u16, u64)>
     Some((processor, task, now))
 }
 
-/// Two processors and a clock reading.
+/// Reads two processors and a clock reading.
 fn pull_words(operands: &[u8]) -> Option<(u8, u8, u64)>
     ensures { result ≡ pull_words (words operands.now) }
 {
@@ -173,7 +174,7 @@ fn pull_words(operands: &[u8]) -> Option<(u8, u8, u64)>
     Some((processor, from, now))
 }
 
-/// What the words after `machine` say.
+/// Reads the words after `machine`.
 fn machine(operands: &[u8]) -> LineReading<'_>
     ensures { result ≡ reading_of_command (machine_command (words operands.now)) }
 {
@@ -183,7 +184,7 @@ fn machine(operands: &[u8]) -> LineReading<'_>
     }
 }
 
-/// What the words after `admit` say.
+/// Reads the words after `admit`.
 fn admit(operands: &[u8]) -> LineReading<'_>
     ensures { result ≡ reading_of_command (admit_command (words operands.now)) }
 {
@@ -198,7 +199,7 @@ fn admit(operands: &[u8]) -> LineReading<'_>
     }
 }
 
-/// What the words after `retire` say.
+/// Reads the words after `retire`.
 fn retire(operands: &[u8]) -> LineReading<'_>
     ensures { result ≡ reading_of_command (retire_command (words operands.now)) }
 {
@@ -208,7 +209,7 @@ fn retire(operands: &[u8]) -> LineReading<'_>
     }
 }
 
-/// What the words after `draw` say.
+/// Reads the words after `draw`.
 fn draw(operands: &[u8]) -> LineReading<'_>
     ensures { result ≡ reading_of_command (draw_command (words operands.now)) }
 {
@@ -218,7 +219,7 @@ fn draw(operands: &[u8]) -> LineReading<'_>
     }
 }
 
-/// What the words after `install` say.
+/// Reads the words after `install`.
 fn install(operands: &[u8]) -> LineReading<'_>
     ensures { result ≡ reading_of_command (install_command (words operands.now)) }
 {
@@ -241,7 +242,7 @@ fn install(operands: &[u8]) -> LineReading<'_>
     })
 }
 
-/// What the words after `begin` say.
+/// Reads the words after `begin`.
 fn begin(operands: &[u8]) -> LineReading<'_>
     ensures { result ≡ reading_of_command (begin_command (words operands.now)) }
 {
@@ -253,7 +254,7 @@ fn begin(operands: &[u8]) -> LineReading<'_>
     }
 }
 
-/// What the words after `end` say.
+/// Reads the words after `end`.
 fn end(operands: &[u8]) -> LineReading<'_>
     ensures { result ≡ reading_of_command (end_command (words operands.now)) }
 {
@@ -265,7 +266,7 @@ fn end(operands: &[u8]) -> LineReading<'_>
     }
 }
 
-/// What the words after `wake` say.
+/// Reads the words after `wake`.
 fn wake(operands: &[u8]) -> LineReading<'_>
     ensures { result ≡ reading_of_command (wake_command (words operands.now)) }
 {
@@ -279,7 +280,7 @@ fn wake(operands: &[u8]) -> LineReading<'_>
     }
 }
 
-/// What the words after `drain` say.
+/// Reads the words after `drain`.
 fn drain(operands: &[u8]) -> LineReading<'_>
     ensures { result ≡ reading_of_command (drain_command (words operands.now)) }
 {
@@ -292,7 +293,7 @@ fn drain(operands: &[u8]) -> LineReading<'_>
     }
 }
 
-/// What the words after `tick` say.
+/// Reads the words after `tick`.
 fn tick(operands: &[u8]) -> LineReading<'_>
     ensures { result ≡ reading_of_command (tick_command (words operands.now)) }
 {
@@ -305,7 +306,7 @@ fn tick(operands: &[u8]) -> LineReading<'_>
     }
 }
 
-/// What the words after `block` say.
+/// Reads the words after `block`.
 fn block(operands: &[u8]) -> LineReading<'_>
     ensures { result ≡ reading_of_command (block_command (words operands.now)) }
 {
@@ -318,7 +319,7 @@ fn block(operands: &[u8]) -> LineReading<'_>
     }
 }
 
-/// What the words after `pull` say.
+/// Reads the words after `pull`.
 fn pull(operands: &[u8]) -> LineReading<'_>
     ensures { result ≡ reading_of_command (pull_command (words operands.now)) }
 {
@@ -332,7 +333,7 @@ fn pull(operands: &[u8]) -> LineReading<'_>
     }
 }
 
-/// What the words after `show` say.
+/// Reads the words after `show`.
 fn show(operands: &[u8]) -> LineReading<'_>
     ensures { result ≡ reading_of_command (show_command (words operands.now)) }
 {
@@ -342,7 +343,7 @@ fn show(operands: &[u8]) -> LineReading<'_>
     }
 }
 
-/// What the words after `counter` say.
+/// Reads the words after `counter`.
 fn counter(operands: &[u8]) -> LineReading<'_>
     ensures { result ≡ reading_of_command (counter_command (words operands.now)) }
 {

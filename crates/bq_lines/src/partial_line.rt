@@ -32,7 +32,7 @@ impl Model for PartialLine {
 }
 
 impl PartialLine {
-    /// A line of which nothing has come.
+    /// Makes a line of which nothing has come.
     pub fn new(alloc: Global) -> PartialLine
         ensures { result ≡ Some [] }
     {
@@ -42,7 +42,7 @@ impl PartialLine {
         }
     }
 
-    /// Whether nothing has begun.
+    /// Returns whether nothing of the line has come.
     pub fn is_empty(&self) -> bool
         ensures kept { IsTrue result ↔ (self.now ≡ Some []) }
         ensures line { (line : List ℕ) → KeepsLine self.now line → result ≡ (length line == 0) }
@@ -50,7 +50,8 @@ impl PartialLine {
         !self.is_too_long && self.bytes.is_empty()
     }
 
-    /// The line that `tail` and a line feed end. `None` if a part of the line came before `tail`, or if the line is too long.
+    /// Returns the line that `tail` and a line feed end. Returns `None` if a part of the line came before `tail`, or if the
+    /// line is too long.
     pub fn whole_line<'a>(&self, tail: &'a [u8]) -> Option<&'a [u8]>
         ensures { MatchOption result ((self.now ≡ Some []) → short_line (strip_carriage_return tail.now) ≡ None)
             (λ l. (self.now ≡ Some []) × (short_line (strip_carriage_return tail.now) ≡ Some l.now)) }
@@ -62,7 +63,7 @@ impl PartialLine {
         }
     }
 
-    /// The line goes on with this piece. An `Err` changes nothing.
+    /// Adds a piece to the line. An `Err` changes nothing.
     pub fn extend(&mut self, piece: &[u8]) -> Result<(), AllocError>
         requires { IsOneLine piece.now }
         ensures ok { OnOk result ((line : List ℕ) → KeepsLine self.old line → KeepsLine self.new (line ++ piece.now)) }
@@ -79,7 +80,7 @@ impl PartialLine {
         self.bytes.extend_from_slice(piece)
     }
 
-    /// The line, if the text ends here. `None` if the line is too long.
+    /// Returns the line, if the text ends here, or `None` if the line is too long.
     pub fn last(&self) -> Option<&[u8]>
         ensures { (line : List ℕ) → KeepsLine self.now line → option_map (λ (l : Bor (List ℕ)). l.now) result ≡ short_line line }
     {
@@ -90,7 +91,7 @@ impl PartialLine {
         }
     }
 
-    /// The line, if a line feed ends it here: without the CR at its end. `None` if the line is too long.
+    /// Returns the line, if a line feed ends it here, without the CR at its end, or `None` if the line is too long.
     pub fn ended(&self) -> Option<&[u8]>
         ensures { (line : List ℕ) → KeepsLine self.now line → option_map (λ (l : Bor (List ℕ)). l.now) result ≡ short_line (strip_carriage_return line) }
     {
@@ -110,7 +111,7 @@ impl PartialLine {
     }
 }
 
-/// The line. `None` if it is too long.
+/// Returns the line, or `None` if it is too long.
 fn short_line(line: &[u8]) -> Option<&[u8]>
     ensures { option_map (λ (l : Bor (List ℕ)). l.now) result ≡ short_line line.now }
 {
@@ -121,7 +122,7 @@ fn short_line(line: &[u8]) -> Option<&[u8]>
     }
 }
 
-/// The first line, and what follows its line feed. `None` if there is no line feed.
+/// Splits off the first line. Returns it and what follows its line feed, or `None` if there is no line feed.
 pub fn first_line(bytes: &[u8]) -> Option<(&[u8], &[u8])>
     ensures found { IfSome result (λ p. (bytes.now ≡ p.0.now ++ 10 ∷ p.1.now) × IsOneLine p.0.now) }
     ensures none { IfNone result (IsOneLine bytes.now) }
@@ -132,7 +133,7 @@ pub fn first_line(bytes: &[u8]) -> Option<(&[u8], &[u8])>
     }
 }
 
-/// The line without one CR at its end, if it has one.
+/// Returns the line without one CR at its end, if it has one.
 fn without_cr(line: &[u8]) -> &[u8]
     ensures { result.now ≡ strip_carriage_return line.now }
 {

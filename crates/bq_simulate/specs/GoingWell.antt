@@ -94,7 +94,7 @@ HasBoth processor other s = (processor < length s.roster.by_processor.items) × 
 abbrev pub IsStrayAction : List TaskKind → TaskProgress → Option Action → Type 0
 IsStrayAction kinds progress action = (slice_get kinds progress.kind ≡ None) ⊎ ((number : ℕ) × (action ≡ Some (Wake number)) × (slice_get kinds number ≡ None))
 
--- what came of a pull is not kept: a task was taken and does not pass, or the switch fails
+-- a pull cannot be recorded: a task was taken and does not pass from one queue to the other, or the switch fails
 abbrev pub IsStrayPull : Periods → ℕ → ℕ → Option ℕ → Option ℕ → ℕ → Accounts → Type 0
 IsStrayPull periods processor from task run now a =
     ((task ≢ None) × IsStrayPass from processor a) ⊎ IsStraySwitch periods processor run now (accounts_pulled from processor task a)

@@ -28,7 +28,8 @@ struct Doing {
     action: Option<Action>,
 }
 
-/// What a task does next; none if it has done all its actions as often as it is to.
+/// Returns what a task does next, or `None` if it has done all its actions as often as it is to. Fails if the task is at no
+/// action of its kind.
 fn next_of(workload: &Workload, progress: &TaskProgress) -> Result<Option<Action>, BrokenInvariant>
     ensures action { IfOk result (λ action. action ≡ next_action workload.now.tasks.items progress.now) }
     ensures stray { IfErr result (λ _. action_count workload.now.tasks.items progress.now ≤ progress.now.action) }
@@ -39,7 +40,8 @@ fn next_of(workload: &Workload, progress: &TaskProgress) -> Result<Option<Action
     }
 }
 
-/// What a task of a kind does next; none if it has done all its actions as often as it is to.
+/// Returns what a task of this kind does next, or `None` if it has done all its actions as often as it is to. Fails if the
+/// task is at no action of the kind.
 fn action_at(kind: &TaskKind, progress: &TaskProgress) -> Result<Option<Action>, BrokenInvariant>
     ensures action { IfOk result (λ action. action ≡ action_at kind.now progress.now) }
     ensures stray { IfErr result (λ _. length kind.now.actions.items ≤ progress.now.action) }
@@ -53,7 +55,7 @@ fn action_at(kind: &TaskKind, progress: &TaskProgress) -> Result<Option<Action>,
     }
 }
 
-/// The length that an action takes.
+/// Returns the length that an action takes, if it takes one.
 fn asked_by(action: Option<Action>) -> Option<Length>
     ensures { result ≡ asked_by action }
 {
@@ -64,7 +66,7 @@ fn asked_by(action: Option<Action>) -> Option<Length>
     }
 }
 
-/// How far a task has come once it has done an action.
+/// Returns how far a task has come once it has done an action. Fails if the task's kind is not there.
 fn advanced(workload: &Workload, progress: TaskProgress) -> Result<TaskProgress, BrokenInvariant>
     ensures next { IfOk result (λ next. next ≡ advanced_in workload.now.tasks.items progress) }
     ensures missing { IfErr result (λ _. slice_get workload.now.tasks.items progress.kind ≡ None) }
@@ -75,7 +77,7 @@ fn advanced(workload: &Workload, progress: TaskProgress) -> Result<TaskProgress,
     Ok(progress)
 }
 
-/// How many tasks a kind has.
+/// Returns how many tasks a kind has. Fails if the kind is not there.
 fn count_of(workload: &Workload, kind: usize) -> Result<u16, BrokenInvariant>
     ensures count { IfOk result (λ count. count ≡ kind_count workload.now.tasks.items kind) }
     ensures missing { IfErr result (λ _. slice_get workload.now.tasks.items kind ≡ None) }
@@ -84,7 +86,8 @@ fn count_of(workload: &Workload, kind: usize) -> Result<u16, BrokenInvariant>
     Ok(kind.count)
 }
 
-/// How far a task has come once its wake has come to one more of the tasks of a kind.
+/// Returns how far a task has come once its wake has come to one more of the tasks of a kind. Fails if that kind, or the
+/// task's own, is not there.
 fn woken_one(
     workload: &Workload,
     progress: TaskProgress,
@@ -100,7 +103,7 @@ fn woken_one(
     }
 }
 
-/// A task that has no phase, and sleeps.
+/// Returns how far a task has come once it has no phase, and is in a state in which it does not run.
 fn resting(progress: TaskProgress, task_state: TaskState) -> TaskProgress
     ensures { result ≡ resting task_state progress }
 {
@@ -110,7 +113,7 @@ fn resting(progress: TaskProgress, task_state: TaskState) -> TaskProgress
     progress
 }
 
-/// A task whose phase has this length.
+/// Returns how far a task has come once a phase of this length has begun.
 fn begun(progress: TaskProgress, length: u64) -> TaskProgress
     ensures { result ≡ phase_begun length progress }
 {
@@ -119,7 +122,7 @@ fn begun(progress: TaskProgress, length: u64) -> TaskProgress
     progress
 }
 
-/// A task that sleeps, from an instant on, for so long.
+/// Returns how far a task has come once it sleeps, from an instant on, for so long.
 fn asleep_for(progress: TaskProgress, length: u64, now: u64) -> TaskProgress
     ensures { result ≡ asleep_for length now progress }
 {
@@ -128,8 +131,8 @@ fn asleep_for(progress: TaskProgress, length: u64, now: u64) -> TaskProgress
     progress
 }
 
-/// The task's progress after it takes up `action`, which lasts `length` if it is a run or a sleep. Only a task that runs has a
-/// phase.
+/// Returns how far a task has come after it takes up `action`, which lasts `length` if it is a run or a sleep. Only a task
+/// that runs has a phase. Fails if the task's kind, or the kind that it wakes, is not there.
 fn acted(
     workload: &Workload,
     progress: TaskProgress,
@@ -150,7 +153,7 @@ fn acted(
 }
 
 impl Simulation {
-    /// The run phase of the task that runs at a processor has ended: it does what comes next.
+    /// Does what comes next for the task that runs at a processor, as its run phase has ended.
     pub(crate) fn act<S: Sink>(
         &mut self,
         alloc: Global,
@@ -166,8 +169,8 @@ impl Simulation {
         self.follow(alloc, processor, &doing, now, sink)
     }
 
-    /// The run phase of the task that runs at a processor has ended, with exactly what it takes. The task takes up its next
-    /// action; if that takes a length, it is the next of the task.
+    /// Ends the run phase of the task that runs at a processor, which has got exactly what it takes, and takes up the task's
+    /// next action. If the action takes a length, that is the next length of the task.
     fn take_action(
         &mut self,
         workload: &Workload,
@@ -189,7 +192,7 @@ impl Simulation {
         })
     }
 
-    /// The next length of a task, if one is asked for.
+    /// Draws the next length of a task, if one is asked for. Returns 0 otherwise.
     fn length_for(&mut self, task: u16, asked: Option<Length>) -> Result<u64, BrokenInvariant>
         ensures drawn { IfOk result (λ length. DrawsFor task asked self.old length self.new) }
         ensures stray { IfErr result (λ _. (length : Length) × (asked ≡ Some length) × ((is_length length ≡ false) ⊎ (slice_get self.old.streams.items task ≡ None))) }
@@ -200,7 +203,7 @@ impl Simulation {
         }
     }
 
-    /// What comes of an action that a task has taken up.
+    /// Does the event that an action calls for, once a task has taken it up.
     fn follow<S: Sink>(
         &mut self,
         alloc: Global,
@@ -230,7 +233,7 @@ impl Simulation {
         }
     }
 
-    /// The task that runs at a processor goes to sleep.
+    /// Puts the task that runs at a processor to sleep.
     fn block<S: Sink>(
         &mut self,
         alloc: Global,
@@ -246,8 +249,8 @@ impl Simulation {
         Ok(())
     }
 
-    /// The task that runs at a processor wakes the tasks of a kind one by one, and `woken` of them are done. Wakes the next one
-    /// from this processor, if that task waits.
+    /// Wakes the next task of a kind from a processor, if that task waits, and counts a missed wake if it does not. The task
+    /// that runs at the processor wakes the tasks of the kind one by one, and `woken` of them are done.
     fn wake_next<S: Sink>(
         &mut self,
         alloc: Global,
@@ -278,7 +281,7 @@ impl Simulation {
         }
     }
 
-    /// The first task of a kind.
+    /// Returns the first task of a kind. Fails if the kind has not begun.
     fn first_of(&self, kind: usize) -> Result<u16, BrokenInvariant>
         ensures there { IfOk result (λ first. slice_get self.now.firsts.items kind ≡ Some first) }
         ensures missing { IfErr result (λ _. slice_get self.now.firsts.items kind ≡ None) }

@@ -29,7 +29,7 @@ pub struct Entered {
 }
 
 impl Driver {
-    /// A task is admitted, and sleeps.
+    /// Admits a task, which sleeps from then on.
     pub fn admit<S: Sink>(
         &mut self,
         alloc: Global,
@@ -54,7 +54,7 @@ impl Driver {
         }
     }
 
-    /// A task is woken from a processor at an instant, and placed. Returns the processor on which it was placed.
+    /// Wakes a task from a processor at an instant, and places it. Returns the processor on which it was placed.
     pub fn wake<S: Sink>(
         &mut self,
         alloc: Global,
@@ -72,7 +72,7 @@ impl Driver {
         }
     }
 
-    /// The task in a processor's hand is placed.
+    /// Places the task in a processor's hand. Returns the processor on which it was placed.
     fn place<S: Sink>(
         &mut self,
         alloc: Global,
@@ -89,7 +89,8 @@ impl Driver {
         }
     }
 
-    /// The tasks that were placed on a processor enter its queue.
+    /// Takes the tasks that were placed on a processor into its queue. Returns their number, and the task that runs there
+    /// afterwards.
     pub fn drain<S: Sink>(
         &mut self,
         alloc: Global,
@@ -106,7 +107,7 @@ impl Driver {
         }
     }
 
-    /// The clock of a processor ticks. Returns the task that runs there afterwards.
+    /// Lets the clock of a processor tick. Returns the task that runs there afterwards.
     pub fn tick<S: Sink>(
         &mut self,
         alloc: Global,
@@ -123,7 +124,7 @@ impl Driver {
         }
     }
 
-    /// The task that runs at a processor goes to sleep. Returns the task that runs there afterwards.
+    /// Puts the task that runs at a processor to sleep. Returns the task that runs there afterwards.
     pub fn block<S: Sink>(
         &mut self,
         alloc: Global,
@@ -140,7 +141,8 @@ impl Driver {
         }
     }
 
-    /// A processor looks for a task in the queue of another.
+    /// Looks for a task that a processor may take from the queue of another. Returns the task that it took, if any, and the
+    /// task that runs there afterwards.
     pub fn pull<S: Sink>(
         &mut self,
         alloc: Global,
@@ -163,7 +165,7 @@ impl Driver {
         }
     }
 
-    /// The next generation's number.
+    /// Draws the next generation's number.
     pub fn draw<S: Sink>(&mut self, alloc: Global, sink: &mut S) -> Result<u64, DriveFault>
         ensures does { IfOk result (λ generation. EventIsDriven S.takes sink.old self.old Draw (Drawn generation) sink.new self.new) }
         ensures fault { IfErr result (λ fault. IsDriveFault self.old Draw fault) }

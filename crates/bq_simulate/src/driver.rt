@@ -20,7 +20,8 @@ pub struct Driver {
 }
 
 impl Driver {
-    /// A machine to which nothing has happened: the first line of its trace. The sink gets its making.
+    /// Makes a machine to which nothing has happened, by the first line of its trace, and reports it. Fails only if memory
+    /// runs out.
     pub fn new<S: Sink>(
         alloc: Global,
         discipline: DisciplineName,
@@ -73,7 +74,7 @@ impl Driver {
         }
     }
 
-    /// A reading is given to a clock, unless it is less than the last or too late.
+    /// Gives a reading to a clock. Fails if it is less than the last one or greater than 2^48 - 1, and then changes nothing.
     fn read(&mut self, reading: Option<u64>) -> Result<(), DriveFault>
         ensures rises { OnOk result (ReadingRises self.old.now reading self.new.now) }
         ensures machine { self.new.machine ≡ self.old.machine }
@@ -92,7 +93,7 @@ impl Driver {
     }
 }
 
-/// The reading of a clock that comes with an event.
+/// Returns the reading of a clock that comes with an event, if one does.
 fn reading_of(event: &Event) -> Option<u64>
     ensures { result ≡ reading_of_event event.now }
 {

@@ -6,7 +6,7 @@ pub trait Enough {
     /// Whether it has enough.
     ghost has_enough: { Self → Bool };
 
-    /// Whether the sink has enough.
+    /// Returns whether the sink has enough.
     fn has_enough(&self) -> bool
         ensures { result ≡ Self.has_enough self.now };
 }

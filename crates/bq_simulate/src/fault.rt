@@ -38,8 +38,8 @@ pub enum SimulateFault {
 }
 
 impl SimulateFault {
-    /// The fault as one of the loop, in which the workload is known to be sound and the sink has not enough: `Unsound` and `Enough`
-    /// cannot come from there, so they become `BrokenInvariant`. All others stay.
+    /// Returns the fault as one of the loop, in which the workload is known to be sound and the sink has not enough:
+    /// `Unsound` and `Enough` cannot come from there, so they become `BrokenInvariant`. All others stay.
     pub(crate) fn of_loop(self) -> SimulateFault
         ensures sound { reported_flaw result ≡ None }
         ensures other { result ≢ Enough }

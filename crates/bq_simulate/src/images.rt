@@ -14,7 +14,7 @@ pub struct Images<'a> {
 }
 
 impl<'a> Images<'a> {
-    /// The image for a hook.
+    /// Returns the image for a hook.
     pub fn at(self, hook: Hook) -> Option<&'a [u8]>
         ensures { optional_bytes result ≡ image_at self.entry hook }
     {

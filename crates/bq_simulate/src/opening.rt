@@ -19,7 +19,7 @@ use bq_workload::{Due, Stream, TaskKind, TaskProgress, Workload, first_of_mask};
 use std::alloc::Global;
 
 impl Simulation {
-    /// Each policy is installed at its hook of every processor, as one generation.
+    /// Installs each policy at its hook of every processor, as one generation.
     pub(crate) fn install<S: Sink>(
         &mut self,
         alloc: Global,
@@ -41,7 +41,7 @@ impl Simulation {
         Ok(())
     }
 
-    /// A policy is installed at its hook of every processor, as this generation.
+    /// Installs a policy at its hook of every processor, as this generation.
     fn install_one<S: Sink>(
         &mut self,
         alloc: Global,
@@ -66,7 +66,7 @@ impl Simulation {
         Ok(())
     }
 
-    /// All tasks are admitted, in the order of their kinds.
+    /// Admits all tasks, in the order of their kinds.
     pub(crate) fn admit<S: Sink>(
         &mut self,
         alloc: Global,
@@ -118,7 +118,7 @@ impl Simulation {
         Ok(())
     }
 
-    /// The next task is the first of the next kind, which has this number.
+    /// Begins the next kind, which has this number. Its first task is the next task.
     fn begin_kind(&mut self, number: usize) -> Result<(), SimulateFault>
         ensures goes_on { OnOk result (BeginsKind number self.old self.new) }
         ensures by_task { self.new.roster ≡ self.old.roster }
@@ -137,7 +137,7 @@ impl Simulation {
         }
     }
 
-    /// How many tasks there are, each with a stream of its own.
+    /// Returns how many tasks there are. Fails if there are not as many streams.
     pub(crate) fn tasks(&self) -> Result<u16, SimulateFault>
         ensures tasks { IfOk result (λ tasks. tasks ≡ length self.now.streams.items) }
         ensures stray { IfErr result (λ _. self.now.counts.tasks ≢ length self.now.streams.items) }
@@ -185,7 +185,7 @@ impl Simulation {
         }
     }
 
-    /// A task is admitted, by what its kind says.
+    /// Admits a task, by what its kind says.
     fn admit_one<S: Sink>(
         &mut self,
         alloc: Global,

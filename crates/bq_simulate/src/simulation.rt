@@ -35,7 +35,7 @@ pub struct Simulation {
 }
 
 impl Simulation {
-    /// A simulation of this machine that has done nothing: no task is there.
+    /// Makes a simulation of this machine that has done nothing: no task is there.
     pub(crate) fn new(
         alloc: Global,
         machine: &Setup,
@@ -93,7 +93,7 @@ impl Simulation {
         }
     }
 
-    /// A task's timer rings now, and wakes it from the processor that it left last.
+    /// Wakes a task, whose timer rings now, from the processor that it left last.
     fn wake_by_timer<S: Sink>(
         &mut self,
         alloc: Global,
@@ -135,7 +135,7 @@ impl Simulation {
         Ok(())
     }
 
-    /// The clock of a processor that runs something beats now, and the processor ticks.
+    /// Lets a processor that runs something tick, as its clock beats now.
     fn tick_on_time<S: Sink>(
         &mut self,
         alloc: Global,
@@ -154,7 +154,7 @@ impl Simulation {
         self.tick(alloc, processor, now, sink)
     }
 
-    /// A processor ticks, whether it runs something or not.
+    /// Lets a processor tick, whether it runs something or not.
     pub(crate) fn tick<S: Sink>(
         &mut self,
         alloc: Global,
@@ -170,7 +170,8 @@ impl Simulation {
         Ok(())
     }
 
-    /// A processor looks now for a task in the queue of the processor that has the most, if that is another, and pulls it.
+    /// Looks now for a task that a processor may pull, in the queue of the processor that has the most, if that is another,
+    /// and pulls it.
     fn look_for_pull<S: Sink>(
         &mut self,
         alloc: Global,
@@ -188,7 +189,7 @@ impl Simulation {
         }
     }
 
-    /// A processor pulls a task from another, if the machine finds one that it may take.
+    /// Pulls a task from one processor to another, if the machine finds one that it may take.
     fn pull_from<S: Sink>(
         &mut self,
         alloc: Global,
@@ -205,7 +206,7 @@ impl Simulation {
         Ok(())
     }
 
-    /// The next length of a task.
+    /// Draws the next length of a task. Fails if the length is not sound, or the task has no stream.
     pub(crate) fn draw(&mut self, task: u16, length: Length) -> Result<u64, BrokenInvariant>
         ensures drawn { IfOk result (λ drawn. DrawsLength task length self.old drawn self.new) }
         ensures stray { IfErr result (λ _. (is_length length ≡ false) ⊎ (slice_get self.old.streams.items task ≡ None)) }

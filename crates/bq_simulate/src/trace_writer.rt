@@ -19,7 +19,7 @@ pub struct TraceWriter<'a> {
 }
 
 impl<'a> TraceWriter<'a> {
-    /// A writer to which nothing has come.
+    /// Makes a writer to which nothing has come.
     pub fn new(alloc: Global, images: Images<'a>) -> TraceWriter<'a>
         ensures text { string_bytes result.text ≡ [] }
         ensures images { result.images ≡ images.entry }
@@ -31,7 +31,7 @@ impl<'a> TraceWriter<'a> {
         }
     }
 
-    /// The image that an event brings.
+    /// Returns the image that an event brings.
     fn brought(&self, event: &Event) -> Option<&'a [u8]>
         ensures { optional_bytes result ≡ brought (image_at self.now.images) event.now }
     {

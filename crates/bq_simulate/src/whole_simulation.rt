@@ -151,7 +151,7 @@ impl Simulation {
         Ok(tasks)
     }
 
-    /// What was counted until now, with this number of tasks.
+    /// Returns what was counted until now, with this number of tasks.
     fn counted(&self, tasks: u16) -> Counts
         ensures { result.tasks ≡ tasks }
     {
@@ -194,7 +194,7 @@ impl Simulation {
         Err(SimulateFault::TooManySteps)
     }
 
-    /// Each processor ticks at the end, by number.
+    /// Lets each processor tick at the end, by number.
     fn finish<S: Sink>(
         &mut self,
         alloc: Global,

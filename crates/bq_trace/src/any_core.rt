@@ -63,7 +63,7 @@ impl AnyCore {
     ghost use Rattle.bq_trace.specs.Machines.{AdvancesMachine};
     ghost use Rattle.bq_trace.specs.Cpus.{cpu_in};
 
-    /// A machine to which nothing has happened.
+    /// Makes a machine to which nothing has happened.
     pub fn new(
         alloc: Global,
         discipline: DisciplineName,
@@ -88,7 +88,7 @@ impl AnyCore {
         })
     }
 
-    /// The discipline of the machine's processors.
+    /// Returns the discipline of the machine's processors.
     pub fn discipline(&self) -> DisciplineName
         ensures { result ≡ self.now.discipline }
     {
@@ -109,7 +109,7 @@ impl AnyCore {
         }
     }
 
-    /// The value of a counter that the policies share.
+    /// Returns the value of a counter that the policies share.
     pub fn counter(&self, counter: u8) -> u64
         requires { counter < COUNTERS }
         ensures { result ≡ slice_index self.now.counters counter }
@@ -117,7 +117,7 @@ impl AnyCore {
         self.board.value(counter)
     }
 
-    /// A processor as it is now, if the machine has it.
+    /// Returns a processor as it is now, if the machine has it.
     pub fn cpu(&self, processor: u8) -> Option<AnyCpu<'_>>
         ensures { option_map cpu_of result ≡ cpu_in self.now processor }
     {
@@ -134,7 +134,7 @@ impl AnyCore {
     }
 }
 
-/// A processor, if the core has it.
+/// Returns a processor, if the core has it.
 fn find_cpu<Q: RunQueue>(core: &DynamicCore<Q>, number: u8) -> Option<&Cpu<Q>>
     ensures { option_map (λ (c : Bor Processor). c.now) result ≡ processor_in core.now number }
 {

@@ -136,7 +136,7 @@ impl AnyCore {
     }
 }
 
-/// Whether memory ran out in an event.
+/// Returns whether memory ran out in an event.
 fn is_out_of_memory(answer: &Result<Reply, Refusal>) -> bool
     ensures { IsTrue result ↔ (answer.now ≡ Err no.OutOfMemory) }
 {

@@ -22,7 +22,7 @@ impl Progress {
     ghost use Rattle.bq_trace.specs.Trace.{opening_progress};
     ghost use Rattle.bq_trace.specs.Reporting.{ReportsShortLine};
 
-    /// The state before the first line.
+    /// Returns the state before the first line.
     pub fn start() -> Progress
         ensures { result ≡ opening_progress }
     {

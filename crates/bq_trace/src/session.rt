@@ -52,7 +52,7 @@ impl Session {
     ghost use Rattle.bq_trace.specs.Trace.{opening_progress};
     ghost use Rattle.bq_trace.specs.Feeding.{Feeds, BreaksOff, Finishes, ForBegunLine};
 
-    /// A replay to which nothing has come yet. It takes its memory from `alloc`.
+    /// Makes a replay to which nothing has come yet. It takes its memory from `alloc`.
     pub fn new(alloc: Global) -> Session
         ensures progress { result.progress ≡ opening_progress }
         ensures begun { result.begun ≡ Some [] }

@@ -137,6 +137,7 @@ pub fn write_answer(text: &mut String, answer: &Result<Reply, Refusal>) -> Resul
     }
 }
 
+/// Adds the line that answers an event that was done.
 fn write_reply(text: &mut String, reply: &Reply) -> Result<(), AllocError>
     ensures { OnOk result (string_bytes text.new ≡ string_bytes text.old ++ event_line (Ok reply.now)) }
 {

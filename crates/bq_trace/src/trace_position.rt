@@ -23,7 +23,7 @@ impl TracePosition {
     ghost use Rattle.bq_trace.specs.Feeding.{ForBegunLine};
     ghost use Rattle.bq_trace.specs.Reporting.{ReportsLine, Story, ReportsPiece};
 
-    /// The position before the first byte. The line that has begun is kept in memory from `alloc`.
+    /// Returns the position before the first byte. The line that has begun is kept in memory from `alloc`.
     pub fn new(alloc: Global) -> TracePosition
         ensures progress { result.progress ≡ opening_progress }
         ensures begun { result.begun ≡ Some [] }
@@ -34,7 +34,7 @@ impl TracePosition {
         }
     }
 
-    /// The line that has begun ends with these bytes and a line feed. Reports what happens.
+    /// Ends the line that has begun with these bytes and a line feed. Reports what the line does.
     fn end_line<S: Sink>(
         &mut self,
         alloc: Global,
@@ -55,7 +55,7 @@ impl TracePosition {
         Ok(())
     }
 
-    /// The trace goes on with this piece. Reports what the lines that end in it do.
+    /// Runs the lines that end in this piece, and reports what they do. The rest of the piece begins the next line.
     pub fn run_piece<S: Sink>(
         &mut self,
         alloc: Global,
@@ -73,7 +73,7 @@ impl TracePosition {
         self.begun.extend(rest)
     }
 
-    /// The trace ends here. Reports what the line that has begun does.
+    /// Runs the line that has begun, if there is one, as the last line of the trace. Reports what it does.
     pub fn run_last_line<S: Sink>(&mut self, alloc: Global, sink: &mut S) -> Result<(), AllocError>
         ensures { OnOk result (ForBegunLine self.old (λ begun.
             Gets S.takes sink.old sink.new (λ reported. Story self.old.progress (lines begun) reported self.new.progress))) }
