@@ -41,7 +41,7 @@ module _ {R : Type 0} (calls : R → List CounterCall) where
   ahead_is xs [] = ap (λ (cs : List CounterCall). record { seats = 1; calls = cs }) (sym (append-nil (calls_of calls xs)))
   ahead_is xs (c ∷ cs) = refl
 
-  -- after a run on a desk the account is ahead by the calls of the run
+  -- after a run on a counter board the account is ahead by the calls of the run
   pub goes_ahead : {B : Type 0} (account : B → Account) (b d : B) (xs : List (Receipt R)) (made : List CounterCall)
       → account b ≡ account_of calls xs
       → Through (λ (old : B) (c : CounterCall) (new : B). account new ≡ account_called (account old) c) b made d
