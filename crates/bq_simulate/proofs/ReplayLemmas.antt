@@ -30,7 +30,7 @@ use Rattle.bq_trace.specs.Machines.{TraceMachine, opening_machine}
 use Rattle.bq_trace.specs.Feeding.{with_feeds}
 use Rattle.bq_trace.specs.TraceEvents.{Reported, texts}
 use Rattle.bq_trace.specs.Reporting.{Happens}
-use Rattle.bq_trace.specs.Trace.{AnswersAtPhase as AnswersIn, AnswersLine, AnswersAll, opening_progress}
+use Rattle.bq_trace.specs.Trace.{AnswersAtPhase, AnswersLine, AnswersAll, opening_progress}
 use Rattle.bq_trace.specs.declared.phase.Phase.{Phase}
 use Rattle.bq_trace.specs.declared.phase.Phase.TheVariants.{Waiting, Running}
 use Rattle.bq_trace.specs.declared.progress.Progress.{Progress}
@@ -48,12 +48,12 @@ after phase n = record { phase = phase; line = n; clean = true }
 
 -- a line that does no harm, by what it says
 line_reads : (line text : List ℕ) (reading : LineReading) (p q : Phase) (n : ℕ)
-    → reading_of line ≡ reading → AnswersIn p reading (one_more n) text q false
+    → reading_of line ≡ reading → AnswersAtPhase p reading (one_more n) text q false
     → AnswersLine (after p n) line text (after q (one_more n))
 line_reads line text reading p q n is h = record {
   counted = refl;
   bad = false;
-  answered = subst (λ r. AnswersIn p r (one_more n) text q false) (sym is) h;
+  answered = subst (λ r. AnswersAtPhase p r (one_more n) text q false) (sym is) h;
   clean = refl;
 }
 

@@ -34,7 +34,7 @@ returns-in_err-moved-clause-ends g c =
     rw p.1 (p.2 (pull_fails w c.args.now c.args.self.now c.args.processor c.args.from well two.0 two.1 two.2
     c.in_err-moved.field-0.0 c.in_err-moved.ensures.fault))
 
--- what came of a pull can be kept
+-- a pull can be recorded
 pub returns-in_err-record_pull-clause-ends : goal.returns-in_err-record_pull-clause-ends
 returns-in_err-record_pull-clause-ends g c =
     let stated = c.in_ok-moved.ensures.does in
