@@ -66,7 +66,7 @@ returns-in_err-entered-clause-ends g c =
     rw p.1 (p.2 (drain_fails w c.args.now c.args.self.now c.wake-2.new.self c.args.from c.args.task c.in_ok-to.to
     placed.reported well c.requires placed.holds c.in_err-entered.field-0.0 c.in_err-entered.ensures.fault))
 
--- what came of a task's entry can be kept
+-- the entry of a task can be recorded
 pub returns-in_err-enter-clause-ends : goal.returns-in_err-enter-clause-ends
 returns-in_err-enter-clause-ends g c =
     let placed = c.in_ok-to.ensures.does in
