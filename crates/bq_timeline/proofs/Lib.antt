@@ -1,8 +1,8 @@
 pub mod CalledLemmas
-pub mod HeedingLemmas
 pub mod MeantLemmas
 pub mod NameLemmas
 pub mod NoteLemmas
+pub mod OptionLemmas
 pub mod ShownLemmas
 pub mod TaskLemmas
 pub mod TextLemmas

@@ -70,7 +70,7 @@ abbrev pub KeepsTable : Option BoundsTable → Option BoundsTable → Type 0
 KeepsTable None bounds = bounds ≡ None
 KeepsTable (Some table) bounds = IsSome bounds
 
--- An event is about to be done. No form but `why` heeds that, and the text stays as it is.
+-- An event is about to be done. No form but `why` uses that, and the text stays as it is.
 pub record ScreenComes (old new : ScreenState) : Type 0 where
   pub form : FormRests old.shown new.shown
   pub table : KeepsTable old.bounds new.bounds

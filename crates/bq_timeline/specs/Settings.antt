@@ -142,20 +142,20 @@ abbrev pub is_picture : FormName → Bool
 is_picture Svg = true
 is_picture other = false
 
--- an option is missing, or the form heeds it
-abbrev pub is_heeded : Bool → Option (String Global) → Bool
-is_heeded heeds None = true
-is_heeded heeds (Some word) = heeds
+-- an option is missing, or it applies to the form
+abbrev pub applies_or_absent : Bool → Option (String Global) → Bool
+applies_or_absent applies None = true
+applies_or_absent applies (Some word) = applies
 
--- the form heeds each option that is given; every form heeds the processors and the tasks
-pub record HeedsAll (form : FormName) (w : Words) : Type 0 where
-  pub from : is_heeded (has_stretch form) w.from ≡ true
-  pub to : is_heeded (has_stretch form) w.to ≡ true
-  pub width : is_heeded (has_width form) w.width ≡ true
-  pub theme : is_heeded (is_picture form) w.theme ≡ true
-  pub title : is_heeded (is_picture form) w.title ≡ true
+-- each option that is given applies to the form; the processors and the tasks apply to every form
+pub record AllOptionsApply (form : FormName) (w : Words) : Type 0 where
+  pub from : applies_or_absent (has_stretch form) w.from ≡ true
+  pub to : applies_or_absent (has_stretch form) w.to ≡ true
+  pub width : applies_or_absent (has_width form) w.width ≡ true
+  pub theme : applies_or_absent (is_picture form) w.theme ≡ true
+  pub title : applies_or_absent (is_picture form) w.title ≡ true
 
--- the words ask for these settings, and for no option that their form does not heed
+-- the words ask for these settings, and for no option that does not apply to their form
 pub record AsksForSettings (w : Words) (s : Settings) : Type 0 where
   pub form : form_asked w ≡ Some s.form
   pub from : from_asked w ≡ Some s.window.from
@@ -167,27 +167,27 @@ pub record AsksForSettings (w : Words) (s : Settings) : Type 0 where
   pub width : width_asked w ≡ Some s.width
   pub theme : theme_asked w ≡ Some s.picture_options.theme
   pub title : optional_word_text s.picture_options.title ≡ optional_word_text w.title
-  pub heeded : HeedsAll s.form w
+  pub apply : AllOptionsApply s.form w
 
 -- both moments are named, and the last is before the first
 abbrev pub RunBackwards : Words → Type 0
 RunBackwards w = (from : ℕ) × (to : ℕ) × (from_asked w ≡ Some from) × (to_asked w ≡ Some to) × (to < from)
 
--- the fault names an option that is given, and that the form does not heed
-abbrev pub IsUnheeded : FormName → Words → SettingsFault → Type 0
-IsUnheeded form w fault.FromUnused = is_heeded (has_stretch form) w.from ≡ false
-IsUnheeded form w fault.ToUnused = is_heeded (has_stretch form) w.to ≡ false
-IsUnheeded form w fault.WidthUnused = is_heeded (has_width form) w.width ≡ false
-IsUnheeded form w fault.ThemeUnused = is_heeded (is_picture form) w.theme ≡ false
-IsUnheeded form w fault.TitleUnused = is_heeded (is_picture form) w.title ≡ false
-IsUnheeded form w other = ⊥
+-- the fault names an option that is given, and that does not apply to the form
+abbrev pub IsUnusedBy : FormName → Words → SettingsFault → Type 0
+IsUnusedBy form w fault.FromUnused = applies_or_absent (has_stretch form) w.from ≡ false
+IsUnusedBy form w fault.ToUnused = applies_or_absent (has_stretch form) w.to ≡ false
+IsUnusedBy form w fault.WidthUnused = applies_or_absent (has_width form) w.width ≡ false
+IsUnusedBy form w fault.ThemeUnused = applies_or_absent (is_picture form) w.theme ≡ false
+IsUnusedBy form w fault.TitleUnused = applies_or_absent (is_picture form) w.title ≡ false
+IsUnusedBy form w other = ⊥
 
--- the fault names an option that the form that is asked for does not heed
+-- the fault names an option that does not apply to the form that is asked for
 abbrev pub IsUnused : Words → SettingsFault → Type 0
-IsUnused w why = (form : FormName) × (form_asked w ≡ Some form) × IsUnheeded form w why
+IsUnused w why = (form : FormName) × (form_asked w ≡ Some form) × IsUnusedBy form w why
 
--- the word that the fault names is not of its kind, or is a time that is too great, or the first moment is after the last, or the form does not heed an option; memory may
--- run out whatever the words are
+-- the word that the fault names is not of its kind, or is a time that is too great, or the first moment is after the last, or an option does not apply to
+-- the form; memory may run out whatever the words are
 abbrev pub IsNoSettings : Words → SettingsFault → Type 0
 IsNoSettings w fault.Form = form_asked w ≡ None
 IsNoSettings w fault.From = (from_asked w ≡ None) × (is_great w.from ≡ false)

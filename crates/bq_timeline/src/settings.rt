@@ -3,7 +3,7 @@ ghost use Rattle.std.specs.Prelude.{◌≡◌, IfErr, IfOk, OnOk, Some, map, str
 ghost use Rattle.bq_words.specs.Durations.{duration_of};
 ghost use Rattle.bq_words.specs.ProcessorSets.{processors_of};
 ghost use Rattle.bq_drawing.specs.Themes.{theme_of};
-ghost use Rattle.bq_timeline.specs.Settings.{AsksForSettings, HeedsAll, IsNoSettings, IsUnheeded, asked_or, form_named, from_asked, is_great, is_heeded, names_given, optional_word_text, to_asked, width_in_word};
+ghost use Rattle.bq_timeline.specs.Settings.{AsksForSettings, AllOptionsApply, IsNoSettings, IsUnusedBy, asked_or, form_named, from_asked, is_great, applies_or_absent, names_given, optional_word_text, to_asked, width_in_word};
 ghost use Rattle.bq_timeline.specs.declared.settings.SettingsFault.TheVariants.{OutOfMemory};
 
 use crate::form_names::FormName;
@@ -155,8 +155,8 @@ impl Settings {
     /// What the words ask for: all of a trace, in a report, unless they say otherwise.
     ///
     /// A fault other than `OutOfMemory` names a word that is not of its kind (a form, a time, processors, tasks, a width or a theme), or says
-    /// that the first moment is after the last, or names an option that the form does not heed.
-    #[tactic(auto, using(crate::proofs::TaskLemmas::runs_backwards, crate::proofs::HeedingLemmas::unheeded))]
+    /// that the first moment is after the last, or names an option that does not apply to the form.
+    #[tactic(auto, using(crate::proofs::TaskLemmas::runs_backwards, crate::proofs::OptionLemmas::unused_by_form))]
     pub fn of(alloc: Global, words: &Words) -> Result<Settings, SettingsFault>
         ensures asked { IfOk result (AsksForSettings words.now) }
         ensures refused { IfErr result (IsNoSettings words.now) }
@@ -178,7 +178,7 @@ impl Settings {
         let width = width_or(&words.width, COLUMNS).ok_or(SettingsFault::Width)?;
         let theme = theme_or(&words.theme, Theme::Light).ok_or(SettingsFault::Theme)?;
         let title = copied(alloc, &words.title)?;
-        heed_all(form, words)?;
+        check_options_apply(form, words)?;
         Ok(Settings {
             form,
             window,
@@ -189,35 +189,35 @@ impl Settings {
     }
 }
 
-/// Checks that the form heeds each option that is given. The fault names the first option that it does not heed.
-fn heed_all(form: FormName, words: &Words) -> Result<(), SettingsFault>
-    ensures all { OnOk result (HeedsAll form words.now) }
-    ensures fault { IfErr result (IsUnheeded form words.now) }
+/// Checks that each option that is given applies to the form. The fault names the first that does not.
+fn check_options_apply(form: FormName, words: &Words) -> Result<(), SettingsFault>
+    ensures all { OnOk result (AllOptionsApply form words.now) }
+    ensures fault { IfErr result (IsUnusedBy form words.now) }
 {
-    if !is_heeded(form.has_stretch(), &words.from) {
+    if !applies_or_absent(form.has_stretch(), &words.from) {
         return Err(SettingsFault::FromUnused);
     }
-    if !is_heeded(form.has_stretch(), &words.to) {
+    if !applies_or_absent(form.has_stretch(), &words.to) {
         return Err(SettingsFault::ToUnused);
     }
-    if !is_heeded(form.has_width(), &words.width) {
+    if !applies_or_absent(form.has_width(), &words.width) {
         return Err(SettingsFault::WidthUnused);
     }
-    if !is_heeded(form.is_picture(), &words.theme) {
+    if !applies_or_absent(form.is_picture(), &words.theme) {
         return Err(SettingsFault::ThemeUnused);
     }
-    if !is_heeded(form.is_picture(), &words.title) {
+    if !applies_or_absent(form.is_picture(), &words.title) {
         return Err(SettingsFault::TitleUnused);
     }
     Ok(())
 }
 
-/// Whether an option is missing, or the form heeds it.
-fn is_heeded(heeds: bool, word: &Option<String>) -> bool
-    ensures { result ≡ is_heeded heeds word.now }
+/// Tells whether an option is absent, or applies to the form.
+fn applies_or_absent(applies: bool, word: &Option<String>) -> bool
+    ensures { result ≡ applies_or_absent applies word.now }
 {
     match word {
-        Some(_) => heeds,
+        Some(_) => applies,
         None => true,
     }
 }
