@@ -13,12 +13,12 @@ use Rattle.bq_experiment.proofs.LimitLemmas.{lets_through}
 use Rattle.bq_comparison.specs.declared.gathering.Gatherer.{Gatherer}
 use Rattle.bq_comparison.specs.Gathering.{IsGathered, reported_latencies, latency_in, reported_start}
 use Rattle.bq_comparison.proofs.LatencyLemmas.{takes_start}
-use Rattle.bq_timeline.specs.Watching.{schedule_after, watched}
+use Rattle.bq_timeline.specs.Watching.{schedule_after, schedule_after_event}
 
 -- what the sink takes of one event
 abbrev pub Takes : Gatherer → ℕ → TraceEvent → Gatherer → Type 0
 Takes old n traced new =
-    (new.schedule ≡ watched old.schedule traced) × TakesStart (reported_start traced old.schedule) old.latencies new.latencies
+    (new.schedule ≡ schedule_after_event old.schedule traced) × TakesStart (reported_start traced old.schedule) old.latencies new.latencies
 
 -- the schedule of a gatherer that took some events is the one after them
 pub schedule-after : (old new : Gatherer) (reported : Reported)
@@ -33,10 +33,10 @@ latencies-after old new [] h task =
     ap (λ (g : Gatherer). latencies_of g.latencies task) h ∙ sym (append-nil (latencies_of old.latencies task))
 latencies-after old new ((n, x) ∷ more) h task =
     latencies-after h.0 new more h.2 task ∙ ap (λ s. latencies_of h.0.latencies task ++ reported_latencies task s more) h.1.0
-    ∙ ap (λ l. l ++ reported_latencies task (watched old.schedule x) more)
+    ∙ ap (λ l. l ++ reported_latencies task (schedule_after_event old.schedule x) more)
     (takes_start (reported_start x old.schedule) old.latencies h.0.latencies h.1.1 task)
     ∙ append_assoc (latencies_of old.latencies task) (latency_in task (reported_start x old.schedule))
-    (reported_latencies task (watched old.schedule x) more)
+    (reported_latencies task (schedule_after_event old.schedule x) more)
 
 -- the schedule and the latencies of a whole simulation, of at most as many events as were left
 pub gathers_simulation : (old new : Limited Gatherer) (policies : List Accepted) (w : Workload)

@@ -8,7 +8,7 @@ use Rattle.bq_schedule.specs.Steps.{change}
 use Rattle.bq_schedule.specs.WakeLatencies.{Tasks, latencies_of}
 use Rattle.bq_simulate.specs.Simulations.{Accepted, IsSimulation}
 use Rattle.bq_experiment.specs.Limits.{events_in}
-use Rattle.bq_timeline.specs.Watching.{schedule_after, watched}
+use Rattle.bq_timeline.specs.Watching.{schedule_after, schedule_after_event}
 
 -- the start that an event tells, if it tells one
 abbrev pub reported_start : TraceEvent → Option Figures → Option Start
@@ -28,7 +28,7 @@ latency_in task (Some start) = own_latency task start.task start.latency
 -- the latencies that a task's starts tell, one after another
 abbrev pub reported_latencies : ℕ → Option Figures → Reported → List ℕ
 reported_latencies task s [] = []
-reported_latencies task s ((n, traced) ∷ more) = latency_in task (reported_start traced s) ++ reported_latencies task (watched s traced) more
+reported_latencies task s ((n, traced) ∷ more) = latency_in task (reported_start traced s) ++ reported_latencies task (schedule_after_event s traced) more
 
 -- the schedule and each task's latencies of a simulation of that workload with these policies, of at most this many events
 pub record IsGathered (policies : List Accepted) (w : Workload) (event_limit : ℕ) (schedule : Option Figures) (tasks : Tasks) : Type 0 where

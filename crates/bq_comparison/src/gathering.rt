@@ -3,7 +3,7 @@ ghost use Rattle.std.specs.Prelude.{◌≡◌, ℕ, [], IfErr, IfOk, None};
 ghost use Rattle.bq_workload.specs.Soundness.{first_flaw};
 ghost use Rattle.bq_comparison.specs.Gathering.{IsGathered, reported_start};
 ghost use Rattle.bq_schedule.specs.WakeLatencies.{TakesStart, latencies_of};
-ghost use Rattle.bq_timeline.specs.Watching.{watched};
+ghost use Rattle.bq_timeline.specs.Watching.{schedule_after_event};
 ghost use Rattle.bq_comparison.specs.Faults.{IsNoRun};
 ghost use Rattle.bq_simulate.specs.Simulations.{with_seed};
 
@@ -42,7 +42,7 @@ impl Gatherer {
 }
 
 impl Sink for Gatherer {
-    ghost takes = { λ old n traced new. (new.schedule ≡ watched old.schedule traced) × TakesStart (reported_start traced old.schedule) old.latencies new.latencies };
+    ghost takes = { λ old n traced new. (new.schedule ≡ schedule_after_event old.schedule traced) × TakesStart (reported_start traced old.schedule) old.latencies new.latencies };
 
     fn receive(&mut self, _number: u64, event: &TraceEvent<'_>) -> Result<(), AllocError> {
         match event {

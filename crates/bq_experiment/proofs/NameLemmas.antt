@@ -77,7 +77,7 @@ learns_more (x ∷ xs) comment old mid new h k = (h.0, h.1, learns_more xs comme
 
 -- what a viewer keeps in one step and keeps in the next it keeps in both
 pub rests_on : (a b c : Viewer) → ViewerRests a b → ViewerRests b c → ViewerRests a c
-rests_on a b c h k = record { schedule = k.schedule ∙ h.schedule; troubles = k.troubles ∙ h.troubles; asked = k.asked ∙ h.asked }
+rests_on a b c h k = record { schedule = k.schedule ∙ h.schedule; bad_or_refused = k.bad_or_refused ∙ h.bad_or_refused; asked = k.asked ∙ h.asked }
 
 -- what is left of a text has at most one character more than it has bytes
 chars_after_short : (n c : ℕ) (bs : List ℕ) → length (chars_after n c bs) ≤ length bs + 1

@@ -12,9 +12,9 @@ use Rattle.bq_simulate.specs.Simulations.{Accepted, IsSimulation}
 use Rattle.bq_simulate.specs.declared.driver.Driver.{Driver}
 use Rattle.bq_simulate.specs.declared.fault.SimulateFault.{SimulateFault}
 use Rattle.bq_timeline.specs.Timelines.{TakesEvent, WatchesEvent}
-use Rattle.bq_timeline.specs.Watching.{schedule_after, troubles_after}
+use Rattle.bq_timeline.specs.Watching.{schedule_after, bad_or_refused_after}
 use Rattle.bq_timeline.specs.declared.viewer.Viewer.{Viewer}
-use Rattle.bq_timeline.proofs.WatchLemmas.{Watched, troubles_after-append, watched_all}
+use Rattle.bq_timeline.proofs.WatchLemmas.{Watched, bad_or_refused_after-append, watched_all}
 use Rattle.bq_trace.specs.TraceEvents.{Gets, TraceEvent, TakesAll, Reported}
 use Rattle.bq_experiment.specs.Faults.{IsRunStopped}
 use Rattle.bq_experiment.specs.Limits.{PassesWithin, events_in}
@@ -36,9 +36,9 @@ TakesByOffset old n traced new = (new.offset ≡ old.offset) × TakesEvent old.v
 abbrev pub pending : OffsetViewer → List ℕ
 pending below = string_bytes below.viewer.screen.text
 
--- clearing leaves the schedule and the troubles
+-- clearing leaves the schedule and the count of lines that were bad or refused
 abbrev pub Clears : OffsetViewer → OffsetViewer → Type 0
-Clears old new = (new.viewer.schedule ≡ old.viewer.schedule) × (new.viewer.troubles ≡ old.viewer.troubles)
+Clears old new = (new.viewer.schedule ≡ old.viewer.schedule) × (new.viewer.bad_or_refused ≡ old.viewer.bad_or_refused)
 
 -- what it takes its viewer watches, whatever is passed on
 keeps_one : (old new : OffsetViewer) (was now : Option (List ℕ)) (n : ℕ) (traced : TraceEvent)
@@ -47,7 +47,7 @@ keeps_one : (old new : OffsetViewer) (was now : Option (List ℕ)) (n : ℕ) (tr
 keeps_one old new was now n traced h = elim h.passed [
   | inl same ↦ (
     ap (λ (l : OffsetViewer). l.viewer.schedule) same.0 ∙ h.taken.1.watches.0,
-    ap (λ (l : OffsetViewer). l.viewer.troubles) same.0 ∙ h.taken.1.watches.1,
+    ap (λ (l : OffsetViewer). l.viewer.bad_or_refused) same.0 ∙ h.taken.1.watches.1,
   )
   | inr emptied ↦ (emptied.cleared.0 ∙ h.taken.1.watches.0, emptied.cleared.1 ∙ h.taken.1.watches.1)
 ]
@@ -60,22 +60,22 @@ viewer_watches {P} sink got old new [] h = ap (λ (p : P). (sink p).viewer) h
 viewer_watches sink got old new ((n, traced) ∷ more) h =
     ((sink h.0).viewer, keeps_one (sink old) (sink h.0) (got old) (got h.0) n traced h.1, viewer_watches sink got h.0 new more h.2)
 
--- events that are done, of which none is refused, are no trouble
-troubles_driven : (n : ℕ) (d : Driver) (events : List Event) (reported : Reported) (e : Driver)
-    → Drives d events reported e → troubles_after n reported ≡ n
-troubles_driven n d [] reported e h = ap (troubles_after n) h.0
-troubles_driven n d (event ∷ events) reported e (reply, mid, first, more, does, drives, whole) =
-    ap (troubles_after n) whole ∙ troubles_after-append n first more
-    ∙ ap (λ k. troubles_after k more) (ap (troubles_after n) does.happens.reports)
-    ∙ troubles_driven n mid events more e drives
+-- events that are done, of which none is refused, add nothing to that count
+bad_or_refused_driven : (n : ℕ) (d : Driver) (events : List Event) (reported : Reported) (e : Driver)
+    → Drives d events reported e → bad_or_refused_after n reported ≡ n
+bad_or_refused_driven n d [] reported e h = ap (bad_or_refused_after n) h.0
+bad_or_refused_driven n d (event ∷ events) reported e (reply, mid, first, more, does, drives, whole) =
+    ap (bad_or_refused_after n) whole ∙ bad_or_refused_after-append n first more
+    ∙ ap (λ k. bad_or_refused_after k more) (ap (bad_or_refused_after n) does.happens.reports)
+    ∙ bad_or_refused_driven n mid events more e drives
 
--- no line of a simulation is trouble
-troubles_simulated : (policies : List Accepted) (w : Workload) (reported : Reported)
-    → IsSimulation policies w reported → troubles_after 0 reported ≡ 0
-troubles_simulated policies w reported s =
-    ap (troubles_after 0) s.whole ∙ troubles_after-append 0 s.first s.more
-    ∙ ap (λ k. troubles_after k s.more) (ap (troubles_after 0) s.starts.reports)
-    ∙ troubles_driven 0 s.opening (events_of s.deeds) s.more s.closing s.drives
+-- no line of a simulation is bad or refused
+bad_or_refused_simulated : (policies : List Accepted) (w : Workload) (reported : Reported)
+    → IsSimulation policies w reported → bad_or_refused_after 0 reported ≡ 0
+bad_or_refused_simulated policies w reported s =
+    ap (bad_or_refused_after 0) s.whole ∙ bad_or_refused_after-append 0 s.first s.more
+    ∙ ap (λ k. bad_or_refused_after k s.more) (ap (bad_or_refused_after 0) s.starts.reports)
+    ∙ bad_or_refused_driven 0 s.opening (events_of s.deeds) s.more s.closing s.drives
 
 -- where a simulation is refused for the first flaw, no other is reported
 pub no_other : (w : Workload) (why : SimulateFault) → reported_flaw why ≡ first_flaw w → ReportsNoOther w why
@@ -94,7 +94,7 @@ IsStopped-by P why fault.TooManyEvents failures h k = (subst P (sym k.0) h, k.1)
 
 -- a viewer that watched a simulation has viewed it
 pub views_simulation : (old new : Viewer) (policies : List Accepted) (w : Workload) (reported : Reported) (event_limit left : ℕ)
-    → old.schedule ≡ None → old.troubles ≡ 0 → first_flaw w ≡ None → TakesAll Watched old reported new
+    → old.schedule ≡ None → old.bad_or_refused ≡ 0 → first_flaw w ≡ None → TakesAll Watched old reported new
     → IsSimulation policies w reported → event_limit ≡ events_in reported + left
     → IsViewed policies w event_limit new
 views_simulation old new policies w reported event_limit left empty zero sound taken simulation limit =
@@ -105,7 +105,7 @@ views_simulation old new policies w reported event_limit left empty zero sound t
       few = omega (arith, limit);
       simulation = simulation;
       schedule = all.0 ∙ ap (λ s. schedule_after s reported) empty;
-      clean = all.1 ∙ ap (λ n. troubles_after n reported) zero ∙ troubles_simulated policies w reported simulation;
+      clean = all.1 ∙ ap (λ n. bad_or_refused_after n reported) zero ∙ bad_or_refused_simulated policies w reported simulation;
     }
 
 -- a viewer and what its text is passed on to
@@ -125,7 +125,7 @@ TakesRun contents old n traced new =
 pub run_viewed : {W E : Type 0} (contents : W → Option (List ℕ)) (old new : Limited (ViewedRun W E))
     (policies : List Accepted) (w : Workload)
     → Gets (PassesWithin (TakesRun contents)) old new (IsSimulation policies w) → new.is_over ≡ false
-    → old.sink.sink.viewer.schedule ≡ None → old.sink.sink.viewer.troubles ≡ 0 → first_flaw w ≡ None
+    → old.sink.sink.viewer.schedule ≡ None → old.sink.sink.viewer.bad_or_refused ≡ 0 → first_flaw w ≡ None
     → IsViewed policies w old.left new.sink.sink.viewer
 run_viewed {W} {E} contents old new policies w g not empty zero sound =
     let through = lets_through (TakesRun contents) old new g.reported g.taken not in

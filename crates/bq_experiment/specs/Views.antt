@@ -26,7 +26,7 @@ pub record IsViewed (policies : List Accepted) (w : Workload) (event_limit : ℕ
   pub few : events_in reported ≤ event_limit
   pub simulation : IsSimulation policies w reported
   pub schedule : viewer.schedule ≡ schedule_after None reported
-  pub clean : viewer.troubles ≡ 0
+  pub clean : viewer.bad_or_refused ≡ 0
 
 -- What goes to standard error ends with the last notes at the schedule that a viewer has of it.
 pub record AreNotesOf (policies : List Accepted) (w : Workload) (event_limit : ℕ) (notes : List ℕ) : Type 0 where

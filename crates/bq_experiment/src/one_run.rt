@@ -290,7 +290,7 @@ fn name_tasks(
     below: &mut OffsetViewer,
 ) -> Result<(), AllocError>
     ensures schedule { below.new.viewer.schedule ≡ below.old.viewer.schedule }
-    ensures troubles { below.new.viewer.troubles ≡ below.old.viewer.troubles }
+    ensures bad_or_refused { below.new.viewer.bad_or_refused ≡ below.old.viewer.bad_or_refused }
 {
     below.offset = show_names(alloc, workload, &mut below.viewer)?;
     Ok(())

@@ -46,7 +46,7 @@ impl Texts for TraceWriter<'_> {
 impl Texts for OffsetViewer {
     ghost pending = { λ s. string_bytes s.viewer.screen.text };
 
-    ghost clears = { λ old new. (new.viewer.schedule ≡ old.viewer.schedule) × (new.viewer.troubles ≡ old.viewer.troubles) };
+    ghost clears = { λ old new. (new.viewer.schedule ≡ old.viewer.schedule) × (new.viewer.bad_or_refused ≡ old.viewer.bad_or_refused) };
 
     fn text(&self) -> &str {
         self.viewer.screen.text.as_str()

@@ -13,7 +13,7 @@ use Rattle.bq_trace.specs.TraceEvents.{TraceEvent, Reported, Opened, Skipped, Co
 use Rattle.bq_timeline.specs.FormTexts.{FormAnswers, FormEnds, FormOpens, FormAddsChange}
 use Rattle.bq_timeline.specs.ScreenTexts.{BeginsText, FormEndsIf, IfShown, ScreenAnswers, ScreenBegins, ScreenEnds, ScreenState, StandsBehind}
 use Rattle.bq_timeline.specs.TraceTexts.{AnswerShows, ScreenTakes, ScreenTakesAll, TextCloses, TextEnds}
-use Rattle.bq_timeline.specs.Watching.{schedule_after, watched}
+use Rattle.bq_timeline.specs.Watching.{schedule_after, schedule_after_event}
 use Rattle.bq_timeline.specs.declared.bounds_table.BoundsTable.{BoundsTable}
 use Rattle.bq_timeline.specs.declared.settings.Settings.{Settings}
 use Rattle.bq_timeline.specs.declared.shown.Shown.{Shown}
@@ -118,7 +118,7 @@ all_behind p s old ((n, traced) ∷ more) new before after h = (
   h.0,
   p ++ h.1,
   event_behind p s traced old h.0 before h.1 h.2,
-  all_behind p (watched s traced) h.0 more new h.1 after h.3,
+  all_behind p (schedule_after_event s traced) h.0 more new h.1 after h.3,
 )
 
 -- trace events, and more behind them
@@ -129,7 +129,7 @@ all_append s old mid new [] ys before text after h k =
     subst (λ (m : ScreenState). ScreenTakesAll s m ys new before after) h.0
     (subst (λ (t : List ℕ). ScreenTakesAll s mid ys new t after) h.1 k)
 all_append s old mid new ((n, traced) ∷ xs) ys before text after h k =
-    (h.0, h.1, h.2, all_append (watched s traced) h.0 mid new xs ys h.1 text after h.3 k)
+    (h.0, h.1, h.2, all_append (schedule_after_event s traced) h.0 mid new xs ys h.1 text after h.3 k)
 
 -- a form ends behind another text as it does without it
 ends_behind : (p : List ℕ) (s : Figures) (names : NamedTasks) (shown : Shown) (before after : List ℕ)

@@ -18,7 +18,7 @@ use Rattle.bq_timeline.specs.Notes.{last_notes}
 use Rattle.bq_timeline.specs.ScreenTexts.{ScreenState, state_of}
 use Rattle.bq_timeline.specs.Timelines.{Closes, IsTimeline, TakesEvent, Watches, WatchesAndWrites, WatchesEvent}
 use Rattle.bq_timeline.specs.TraceTexts.{IsBlank, ScreenTakesAll, TextCloses}
-use Rattle.bq_timeline.specs.Watching.{schedule_after, troubled, troubles_after, watched}
+use Rattle.bq_timeline.specs.Watching.{schedule_after, bad_or_refused_after_event, bad_or_refused_after, schedule_after_event}
 use Rattle.bq_timeline.specs.declared.settings.Settings.{Settings}
 use Rattle.bq_timeline.specs.declared.showing.Outcome.{Outcome}
 use Rattle.bq_timeline.specs.declared.showing.Showing.{Showing}
@@ -35,11 +35,11 @@ Takes old n traced new = TakesEvent old traced new
 
 -- events that a viewer watches leave it their schedule and their count
 pub watched_all : (old new : Viewer) (reported : Reported) → TakesAll Watched old reported new
-    → (new.schedule ≡ schedule_after old.schedule reported) × (new.troubles ≡ troubles_after old.troubles reported)
-watched_all old new [] h = (ap (λ (v : Viewer). v.schedule) h, ap (λ (v : Viewer). v.troubles) h)
+    → (new.schedule ≡ schedule_after old.schedule reported) × (new.bad_or_refused ≡ bad_or_refused_after old.bad_or_refused reported)
+watched_all old new [] h = (ap (λ (v : Viewer). v.schedule) h, ap (λ (v : Viewer). v.bad_or_refused) h)
 watched_all old new ((n, x) ∷ more) h =
     let rest = watched_all h.0 new more h.2 in
-    (rest.0 ∙ ap (λ s. schedule_after s more) h.1.0, rest.1 ∙ ap (λ k. troubles_after k more) h.1.1)
+    (rest.0 ∙ ap (λ s. schedule_after s more) h.1.0, rest.1 ∙ ap (λ k. bad_or_refused_after k more) h.1.1)
 
 -- a viewer watches the events that it takes
 watches_all : (old new : Viewer) (reported : Reported) → TakesAll Takes old reported new → TakesAll Watched old reported new
@@ -64,14 +64,14 @@ shows_all old new ((n, x) ∷ more) h =
 
 -- what a sink gets, where the viewer is one; what is written and cleared besides changes nothing else of it
 pub watches_what_it_gets : (old new then : Viewer) (Holds : Reported → Type 0)
-    → Gets Takes old new Holds → then.schedule ≡ new.schedule → then.troubles ≡ new.troubles → state_of then.screen ≡ state_of new.screen
+    → Gets Takes old new Holds → then.schedule ≡ new.schedule → then.bad_or_refused ≡ new.bad_or_refused → state_of then.screen ≡ state_of new.screen
     → Watches old then (string_bytes new.screen.text) Holds
-watches_what_it_gets old new then Holds g schedule troubles state =
+watches_what_it_gets old new then Holds g schedule bad_or_refused state =
     let kept = watched_all old new g.reported (watches_all old new g.reported g.taken) in
     record {
       reported = g.reported;
       schedule = schedule ∙ kept.0;
-      troubles = troubles ∙ kept.1;
+      bad_or_refused = bad_or_refused ∙ kept.1;
       shows =
           subst
           (λ (t : ScreenState).
@@ -83,12 +83,12 @@ watches_what_it_gets old new then Holds g schedule troubles state =
 -- the schedule of events and of more behind them
 pub schedule_after-append : (s : Option Figures) (xs ys : Reported) → schedule_after s (xs ++ ys) ≡ schedule_after (schedule_after s xs) ys
 schedule_after-append s [] ys = refl
-schedule_after-append s ((n, x) ∷ xs) ys = schedule_after-append (watched s x) xs ys
+schedule_after-append s ((n, x) ∷ xs) ys = schedule_after-append (schedule_after_event s x) xs ys
 
 -- the count of events and of more behind them
-pub troubles_after-append : (k : ℕ) (xs ys : Reported) → troubles_after k (xs ++ ys) ≡ troubles_after (troubles_after k xs) ys
-troubles_after-append k [] ys = refl
-troubles_after-append k ((n, x) ∷ xs) ys = troubles_after-append (troubled k x) xs ys
+pub bad_or_refused_after-append : (k : ℕ) (xs ys : Reported) → bad_or_refused_after k (xs ++ ys) ≡ bad_or_refused_after (bad_or_refused_after k xs) ys
+bad_or_refused_after-append k [] ys = refl
+bad_or_refused_after-append k ((n, x) ∷ xs) ys = bad_or_refused_after-append (bad_or_refused_after_event k x) xs ys
 
 -- The reader gave input, whose whole lines the viewer got, and the rest has begun. The output got the text of these lines.
 pub record Underway (asked : Settings) (from to was now : Option (List ℕ)) (showing : Showing) : Type 0 where
@@ -102,7 +102,7 @@ pub record Underway (asked : Settings) (from to was now : Option (List ℕ)) (sh
   pub story : Story opening_progress (map strip_carriage_return ended) reported showing.position.progress
   pub stands : KeepsLine showing.position.begun rest
   pub schedule : showing.viewer.schedule ≡ schedule_after None reported
-  pub troubles : showing.viewer.troubles ≡ troubles_after 0 reported
+  pub bad_or_refused : showing.viewer.bad_or_refused ≡ bad_or_refused_after 0 reported
   pub first : ScreenState
   pub text : List ℕ
   pub blank : IsBlank asked first
@@ -113,9 +113,9 @@ pub record Underway (asked : Settings) (from to was now : Option (List ℕ)) (sh
 -- at the start nothing has been read, and nothing written
 pub Underway-none : (asked : Settings) (from was : Option (List ℕ)) (showing : Showing)
     → showing.position.progress ≡ opening_progress → showing.position.begun ≡ Some [] → showing.viewer.schedule ≡ None
-    → showing.viewer.troubles ≡ 0 → IsBlank asked (state_of showing.viewer.screen) → string_bytes showing.viewer.screen.text ≡ []
+    → showing.viewer.bad_or_refused ≡ 0 → IsBlank asked (state_of showing.viewer.screen) → string_bytes showing.viewer.screen.text ≡ []
     → Underway asked from from was was showing
-Underway-none asked from was showing first nothing schedule troubles blank empty = record {
+Underway-none asked from was showing first nothing schedule bad_or_refused blank empty = record {
   input = [];
   reported = [];
   ended = [];
@@ -126,7 +126,7 @@ Underway-none asked from was showing first nothing schedule troubles blank empty
   story = (refl, first);
   stands = subst (λ k. KeepsLine k []) (sym nothing) stands_for_nothing;
   schedule = schedule;
-  troubles = troubles;
+  bad_or_refused = bad_or_refused;
   first = state_of showing.viewer.screen;
   text = [];
   blank = blank;
@@ -169,7 +169,7 @@ Underway-more asked from mid to was between now s t piece h consumed written emp
           (map strip_carriage_return on.ended) h.reported w.reported h.story on.story);
       stands = on.stands;
       schedule = w.schedule ∙ ap (λ k. schedule_after k w.reported) h.schedule ∙ sym (schedule_after-append None h.reported w.reported);
-      troubles = w.troubles ∙ ap (λ k. troubles_after k w.reported) h.troubles ∙ sym (troubles_after-append 0 h.reported w.reported);
+      bad_or_refused = w.bad_or_refused ∙ ap (λ k. bad_or_refused_after k w.reported) h.bad_or_refused ∙ sym (bad_or_refused_after-append 0 h.reported w.reported);
       first = h.first;
       text = h.text ++ written.text;
       blank = h.blank;
@@ -186,8 +186,8 @@ pub Underway-ends : (asked : Settings) (from mid to was between now : Option (Li
     → (h : Underway asked from mid was between showing) → Consumes mid to [] → IsAtEnd to → Closes showing h.rest between now outcome
     → IsTimeline asked from to was now outcome
 Underway-ends asked from mid to was between now showing outcome h consumed at_end f =
-    let count : troubles_after showing.viewer.troubles f.reported ≡ troubles_after 0 (h.reported ++ f.reported) =
-    ap (λ k. troubles_after k f.reported) h.troubles ∙ sym (troubles_after-append 0 h.reported f.reported) in
+    let count : bad_or_refused_after showing.viewer.bad_or_refused f.reported ≡ bad_or_refused_after 0 (h.reported ++ f.reported) =
+    ap (λ k. bad_or_refused_after k f.reported) h.bad_or_refused ∙ sym (bad_or_refused_after-append 0 h.reported f.reported) in
     let last : schedule_after showing.viewer.schedule f.reported ≡ schedule_after None (h.reported ++ f.reported) =
     ap (λ s. schedule_after s f.reported) h.schedule ∙ sym (schedule_after-append None h.reported f.reported) in
     record {
@@ -204,7 +204,7 @@ Underway-ends asked from mid to was between now showing outcome h consumed at_en
       clean = f.clean ∙ ap (λ k. k == 0) count;
       before = f.before;
       notes = f.notes ∙ ap (λ k. f.before ++ last_notes (schedule_after showing.viewer.schedule f.reported) k) count
-          ∙ ap (λ s. f.before ++ last_notes s (troubles_after 0 (h.reported ++ f.reported))) last;
+          ∙ ap (λ s. f.before ++ last_notes s (bad_or_refused_after 0 (h.reported ++ f.reported))) last;
       text = h.text ++ f.text;
       shown = record {
         first = h.first;

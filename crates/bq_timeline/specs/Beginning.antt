@@ -42,4 +42,4 @@ pub record TraceEnds (old new : Viewer) : Type 0 where
   pub begun : Screen
   pub begins : FormBeginsWith old.schedule old.screen begun
   pub notes : string_bytes new.screen.notes
-      ≡ (string_bytes begun.notes ++ absent_notes old.schedule begun.tasks.items begun.part) ++ last_notes old.schedule old.troubles
+      ≡ (string_bytes begun.notes ++ absent_notes old.schedule begun.tasks.items begun.part) ++ last_notes old.schedule old.bad_or_refused

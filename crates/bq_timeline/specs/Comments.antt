@@ -17,5 +17,5 @@ ReadsComment traced old new = Unit {0}
 -- the schedule, the count of bad or refused lines and the settings stay the same
 pub record ViewerRests (old new : Viewer) : Type 0 where
   pub schedule : new.schedule ≡ old.schedule
-  pub troubles : new.troubles ≡ old.troubles
+  pub bad_or_refused : new.bad_or_refused ≡ old.bad_or_refused
   pub asked : new.screen.asked ≡ old.screen.asked

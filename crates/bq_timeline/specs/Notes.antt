@@ -63,10 +63,10 @@ abbrev pub unmade_note : ℕ → List ℕ
 unmade_note n = if n == 0 then codes "the trace makes no machine, so there is nothing to show: it begins with a line such as machine cfs 2\n" else []
 
 -- how many lines were bad or refused, if any were
-abbrev pub trouble_note : ℕ → List ℕ
-trouble_note n = if n == 0 then [] else codes "lines bad or refused: " ++ (decimal n ++ codes "\n")
+abbrev pub bad_or_refused_note : ℕ → List ℕ
+bad_or_refused_note n = if n == 0 then [] else codes "lines bad or refused: " ++ (decimal n ++ codes "\n")
 
 -- the last notes, by the schedule of the whole trace, if there is one, and the number of bad or refused lines
 abbrev pub last_notes : Option Figures → ℕ → List ℕ
-last_notes None n = unmade_note n ++ trouble_note n
-last_notes (Some s) n = waiting_notes s TASKS ++ trouble_note n
+last_notes None n = unmade_note n ++ bad_or_refused_note n
+last_notes (Some s) n = waiting_notes s TASKS ++ bad_or_refused_note n

@@ -9,7 +9,7 @@ use Rattle.bq_trace.specs.declared.progress.Progress.{Progress}
 use Rattle.bq_timeline.specs.Notes.{last_notes}
 use Rattle.bq_timeline.specs.ScreenTexts.{ScreenState, state_of}
 use Rattle.bq_timeline.specs.TraceTexts.{IsTimelineText, ScreenTakes, ScreenTakesAll, TextCloses}
-use Rattle.bq_timeline.specs.Watching.{schedule_after, troubled, troubles_after, watched}
+use Rattle.bq_timeline.specs.Watching.{schedule_after, bad_or_refused_after_event, bad_or_refused_after, schedule_after_event}
 use Rattle.bq_timeline.specs.declared.settings.Settings.{Settings}
 use Rattle.bq_timeline.specs.declared.showing.Outcome.{Outcome}
 use Rattle.bq_timeline.specs.declared.showing.Showing.{Showing}
@@ -17,7 +17,7 @@ use Rattle.bq_timeline.specs.declared.viewer.Viewer.{Viewer}
 
 -- The schedule of a viewer went on with a trace event, and the event was counted if its line was bad or refused.
 abbrev pub WatchesEvent : Viewer → TraceEvent → Viewer → Type 0
-WatchesEvent old traced new = (new.schedule ≡ watched old.schedule traced) × (new.troubles ≡ troubled old.troubles traced)
+WatchesEvent old traced new = (new.schedule ≡ schedule_after_event old.schedule traced) × (new.bad_or_refused ≡ bad_or_refused_after_event old.bad_or_refused traced)
 
 -- The screen of a viewer took a trace event, with the schedule before it.
 abbrev pub ShowsEvent : Viewer → TraceEvent → Viewer → Type 0
@@ -34,7 +34,7 @@ pub record TakesEvent (old : Viewer) (traced : TraceEvent) (new : Viewer) : Type
 pub record Watches (old new : Viewer) (text : List ℕ) (Holds : Reported → Type 0) : Type 0 where
   pub reported : Reported
   pub schedule : new.schedule ≡ schedule_after old.schedule reported
-  pub troubles : new.troubles ≡ troubles_after old.troubles reported
+  pub bad_or_refused : new.bad_or_refused ≡ bad_or_refused_after old.bad_or_refused reported
   pub shows : ScreenTakesAll old.schedule (state_of old.screen) reported (state_of new.screen) (string_bytes old.screen.text) text
   pub holds : Holds reported
 
@@ -50,9 +50,9 @@ pub record Closes (showing : Showing) (begun : List ℕ) (was now : Option (List
   pub reported : Reported
   pub final : Progress
   pub story : Story showing.position.progress (lines begun) reported final
-  pub clean : outcome.clean ≡ (troubles_after showing.viewer.troubles reported == 0)
+  pub clean : outcome.clean ≡ (bad_or_refused_after showing.viewer.bad_or_refused reported == 0)
   pub before : List ℕ
-  pub notes : string_bytes outcome.notes ≡ before ++ last_notes (schedule_after showing.viewer.schedule reported) (troubles_after showing.viewer.troubles reported)
+  pub notes : string_bytes outcome.notes ≡ before ++ last_notes (schedule_after showing.viewer.schedule reported) (bad_or_refused_after showing.viewer.bad_or_refused reported)
   pub last : ScreenState
   pub taken : List ℕ
   pub text : List ℕ
@@ -69,9 +69,9 @@ pub record IsTimeline (asked : Settings) (from to was now : Option (List ℕ)) (
   pub consumed : Consumes from to input
   pub at_end : IsAtEnd to
   pub story : Story opening_progress (lines input) reported final
-  pub clean : outcome.clean ≡ (troubles_after 0 reported == 0)
+  pub clean : outcome.clean ≡ (bad_or_refused_after 0 reported == 0)
   pub before : List ℕ
-  pub notes : string_bytes outcome.notes ≡ before ++ last_notes (schedule_after None reported) (troubles_after 0 reported)
+  pub notes : string_bytes outcome.notes ≡ before ++ last_notes (schedule_after None reported) (bad_or_refused_after 0 reported)
   pub text : List ℕ
   pub shown : IsTimelineText asked reported text
   pub wrote : Appends was now text

@@ -8,7 +8,7 @@ use Rattle.bq_schedule.specs.Figures.{Figures}
 use Rattle.bq_schedule.specs.Steps.{change, figures_after}
 use Rattle.bq_report.specs.Names.{Learns, name_of}
 use Rattle.bq_timeline.specs.ScreenTexts.{ScreenAnswers, ScreenBegins, ScreenComes, ScreenEnds, ScreenState}
-use Rattle.bq_timeline.specs.Watching.{schedule_after, watched}
+use Rattle.bq_timeline.specs.Watching.{schedule_after, schedule_after_event}
 use Rattle.bq_timeline.specs.declared.settings.Settings.{Settings}
 
 -- an event was done or refused; nothing is shown without a machine
@@ -34,7 +34,7 @@ abbrev pub ScreenTakesAll : Option Figures → ScreenState → Reported → Scre
 ScreenTakesAll s old [] new before after = (new ≡ old) × (after ≡ before)
 ScreenTakesAll s old ((line, traced) ∷ more) new before after =
     (mid : ScreenState) × (text : List ℕ) × ScreenTakes s traced old mid before text
-    × ScreenTakesAll (watched s traced) mid more new text after
+    × ScreenTakesAll (schedule_after_event s traced) mid more new text after
 
 -- a screen on which nothing is written yet
 pub record IsBlank (asked : Settings) (state : ScreenState) : Type 0 where

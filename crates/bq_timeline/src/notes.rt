@@ -2,7 +2,7 @@
 ghost use Rattle.std.specs.Prelude.{◌≡◌, ◌++◌, OnOk, Some, string_bytes};
 ghost use Rattle.std.specs.List.{list_any};
 ghost use Rattle.bq_schedule.specs.Figures.{task_in_figures};
-ghost use Rattle.bq_timeline.specs.Notes.{absent_notes, is_number, lacks_processors, lacks_tasks, past_note, processors_note, reaches, tasks_note, trouble_note, unmade_note, waiting_note, waiting_notes};
+ghost use Rattle.bq_timeline.specs.Notes.{absent_notes, is_number, lacks_processors, lacks_tasks, past_note, processors_note, reaches, tasks_note, bad_or_refused_note, unmade_note, waiting_note, waiting_notes};
 
 use crate::called::NO_TASK;
 use crate::screen::Part;
@@ -107,10 +107,10 @@ fn lacks_processors(count: usize, processors: u64) -> bool
 }
 
 /// Notes that no line made a machine, if no line was bad or refused.
-pub(crate) fn note_unmade(notes: &mut String, troubles: u64) -> Result<(), AllocError>
-    ensures { OnOk result (string_bytes notes.new ≡ string_bytes notes.old ++ unmade_note troubles) }
+pub(crate) fn note_unmade(notes: &mut String, bad_or_refused: u64) -> Result<(), AllocError>
+    ensures { OnOk result (string_bytes notes.new ≡ string_bytes notes.old ++ unmade_note bad_or_refused) }
 {
-    if troubles != 0 {
+    if bad_or_refused != 0 {
         return Ok(());
     }
     notes.push_str(with_first_line!(
@@ -143,11 +143,11 @@ fn note_task(notes: &mut String, task: u16, processor: Option<u8>) -> Result<(),
 }
 
 /// Notes how many lines were bad or refused, if any were.
-pub(crate) fn note_troubles(notes: &mut String, troubles: u64) -> Result<(), AllocError>
-    ensures { OnOk result (string_bytes notes.new ≡ string_bytes notes.old ++ trouble_note troubles) }
+pub(crate) fn note_bad_or_refused(notes: &mut String, bad_or_refused: u64) -> Result<(), AllocError>
+    ensures { OnOk result (string_bytes notes.new ≡ string_bytes notes.old ++ bad_or_refused_note bad_or_refused) }
 {
-    if troubles == 0 {
+    if bad_or_refused == 0 {
         return Ok(());
     }
-    write!(notes, "lines bad or refused: {troubles}\n")
+    write!(notes, "lines bad or refused: {bad_or_refused}\n")
 }

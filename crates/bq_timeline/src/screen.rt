@@ -11,7 +11,7 @@ ghost use Rattle.bq_timeline.specs.Shown.{IsAskedFor};
 use crate::bounds_table::BoundsTable;
 use crate::called::{add_called, note_uncalled};
 use crate::foreign::foreign_text;
-use crate::notes::{note_absent, note_troubles, note_unmade, note_waiting};
+use crate::notes::{note_absent, note_bad_or_refused, note_unmade, note_waiting};
 use crate::settings::Settings;
 use crate::shown::Shown;
 use bq_lines::line_fault::{LineFault, NOT_READ_ON, meant_keyword, why_bad};
@@ -347,17 +347,17 @@ impl Screen {
         }
     }
 
-    /// The trace is over. `troubles` is how many lines were bad or refused.
-    pub fn end(&mut self, schedule: &Schedule, troubles: u64) -> Result<(), AllocError>
+    /// Ends the form and adds the last notes: the trace is over. `bad_or_refused` is how many lines were bad or refused.
+    pub fn end(&mut self, schedule: &Schedule, bad_or_refused: u64) -> Result<(), AllocError>
         ensures notes { OnOk result (string_bytes self.new.notes ≡ (string_bytes self.old.notes ++ absent_notes (Some schedule.now) self.old.tasks.items self.old.part)
-            ++ last_notes (Some schedule.now) troubles) }
+            ++ last_notes (Some schedule.now) bad_or_refused) }
         ensures text { OnOk result (ScreenEnds schedule.now (state_of self.old) (string_bytes self.old.text) (string_bytes self.new.text)) }
     {
         self.end_form(schedule)?;
         self.write_bounds()?;
         note_absent(&mut self.notes, schedule, self.tasks.as_slice(), self.part)?;
         note_waiting(&mut self.notes, schedule)?;
-        note_troubles(&mut self.notes, troubles)
+        note_bad_or_refused(&mut self.notes, bad_or_refused)
     }
 
     /// Ends the form, if it has begun.
@@ -382,12 +382,12 @@ impl Screen {
         }
     }
 
-    /// The trace is over and made no machine. `troubles` is how many lines were bad or refused.
-    pub fn end_unmade(&mut self, troubles: u64) -> Result<(), AllocError>
-        ensures notes { OnOk result (string_bytes self.new.notes ≡ string_bytes self.old.notes ++ last_notes None troubles) }
+    /// Adds the last notes: the trace is over and made no machine. `bad_or_refused` is how many lines were bad or refused.
+    pub fn end_unmade(&mut self, bad_or_refused: u64) -> Result<(), AllocError>
+        ensures notes { OnOk result (string_bytes self.new.notes ≡ string_bytes self.old.notes ++ last_notes None bad_or_refused) }
         ensures unchanged { ChangesOnlyNotes self.old self.new }
     {
-        note_unmade(&mut self.notes, troubles)?;
-        note_troubles(&mut self.notes, troubles)
+        note_unmade(&mut self.notes, bad_or_refused)?;
+        note_bad_or_refused(&mut self.notes, bad_or_refused)
     }
 }

@@ -81,7 +81,7 @@ impl Showing {
         ensures progress { result.position.progress ≡ opening_progress }
         ensures begun { result.position.begun ≡ Some [] }
         ensures schedule { result.viewer.schedule ≡ None }
-        ensures troubles { result.viewer.troubles ≡ 0 }
+        ensures bad_or_refused { result.viewer.bad_or_refused ≡ 0 }
         ensures blank { IsBlank settings (state_of result.viewer.screen) }
         ensures text { string_bytes result.viewer.screen.text ≡ [] }
     {
@@ -127,7 +127,7 @@ impl Showing {
         output.write_text(self.viewer.screen.text.as_bytes())?;
         let notes = self.viewer.screen.notes.clone()?;
         Ok(Outcome {
-            clean: self.viewer.troubles == 0,
+            clean: self.viewer.bad_or_refused == 0,
             notes,
         })
     }

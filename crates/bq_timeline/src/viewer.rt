@@ -23,7 +23,7 @@ use std::alloc::{AllocError, Global};
 pub struct Viewer {
     alloc: Global,
     pub schedule: Option<Schedule>,
-    pub troubles: u64,
+    pub bad_or_refused: u64,
     pub screen: Screen,
 }
 
@@ -31,7 +31,7 @@ impl Viewer {
     /// A viewer to which no line has come.
     pub fn new(alloc: Global, settings: Settings) -> Viewer
         ensures schedule { result.schedule ≡ None }
-        ensures troubles { result.troubles ≡ 0 }
+        ensures bad_or_refused { result.bad_or_refused ≡ 0 }
         ensures asked { result.screen.asked ≡ Some settings }
         ensures names { (task : ℕ) → name_of result.screen.names task ≡ None }
         ensures blank { IsBlank settings (state_of result.screen) }
@@ -40,7 +40,7 @@ impl Viewer {
         Viewer {
             alloc,
             schedule: None,
-            troubles: 0,
+            bad_or_refused: 0,
             screen: Screen::new(alloc, settings),
         }
     }
@@ -49,7 +49,7 @@ impl Viewer {
     /// JSON do.
     pub fn count_missed(&mut self, wakes: u64)
         ensures schedule { self.new.schedule ≡ self.old.schedule }
-        ensures troubles { self.new.troubles ≡ self.old.troubles }
+        ensures bad_or_refused { self.new.bad_or_refused ≡ self.old.bad_or_refused }
     {
         self.screen.count_missed(wakes);
     }
@@ -58,7 +58,7 @@ impl Viewer {
     /// except the machine's and those that read a counter.
     fn begin(&mut self) -> Result<(), AllocError>
         ensures schedule { self.new.schedule ≡ self.old.schedule }
-        ensures troubles { self.new.troubles ≡ self.old.troubles }
+        ensures bad_or_refused { self.new.bad_or_refused ≡ self.old.bad_or_refused }
         ensures form { OnOk result (FormBeginsWith self.old.schedule self.old.screen self.new.screen) }
         ensures text { OnOk result (ScreenBegins self.old.schedule (state_of self.old.screen) (state_of self.new.screen)
             (string_bytes self.old.screen.text) (string_bytes self.new.screen.text)) }
@@ -70,14 +70,14 @@ impl Viewer {
     }
 
     /// Begins the form, if it can, and counts one more line that is bad or refused.
-    fn begin_trouble(&mut self) -> Result<(), AllocError>
+    fn begin_and_count(&mut self) -> Result<(), AllocError>
         ensures schedule { self.new.schedule ≡ self.old.schedule }
-        ensures troubles { OnOk result (self.new.troubles ≡ one_more self.old.troubles) }
+        ensures bad_or_refused { OnOk result (self.new.bad_or_refused ≡ one_more self.old.bad_or_refused) }
         ensures text { OnOk result (ScreenBegins self.old.schedule (state_of self.old.screen) (state_of self.new.screen)
             (string_bytes self.old.screen.text) (string_bytes self.new.screen.text)) }
     {
         self.begin()?;
-        self.troubles = self.troubles.saturating_add(1);
+        self.bad_or_refused = self.bad_or_refused.saturating_add(1);
         Ok(())
     }
 
@@ -95,7 +95,7 @@ impl Viewer {
         ensures { OnOk result (TakesEvent self.old (Answered event.now answer.now machine.now) self.new) }
     {
         if answer.is_err() {
-            self.troubles = self.troubles.saturating_add(1);
+            self.bad_or_refused = self.bad_or_refused.saturating_add(1);
         }
         let Some(schedule) = &mut self.schedule else {
             return Ok(());
@@ -108,7 +108,7 @@ impl Viewer {
     /// The trace is over.
     pub fn end(&mut self) -> Result<(), AllocError>
         ensures schedule { self.new.schedule ≡ self.old.schedule }
-        ensures troubles { self.new.troubles ≡ self.old.troubles }
+        ensures bad_or_refused { self.new.bad_or_refused ≡ self.old.bad_or_refused }
         ensures notes { OnOk result (TraceEnds self.old self.new) }
         ensures text { OnOk result (TextCloses self.old.schedule (state_of self.old.screen)
             (string_bytes self.old.screen.text) (string_bytes self.new.screen.text)) }
@@ -121,16 +121,16 @@ impl Viewer {
     /// The trace is over, and its form has begun if there is a machine.
     fn close(&mut self) -> Result<(), AllocError>
         ensures schedule { self.new.schedule ≡ self.old.schedule }
-        ensures troubles { self.new.troubles ≡ self.old.troubles }
+        ensures bad_or_refused { self.new.bad_or_refused ≡ self.old.bad_or_refused }
         ensures notes { OnOk result (string_bytes self.new.screen.notes
             ≡ (string_bytes self.old.screen.notes ++ absent_notes self.old.schedule self.old.screen.tasks.items self.old.screen.part)
-            ++ last_notes self.old.schedule self.old.troubles) }
+            ++ last_notes self.old.schedule self.old.bad_or_refused) }
         ensures text { OnOk result (TextEnds self.old.schedule (state_of self.old.screen)
             (string_bytes self.old.screen.text) (string_bytes self.new.screen.text)) }
     {
         match &self.schedule {
-            Some(schedule) => self.screen.end(schedule, self.troubles),
-            None => self.screen.end_unmade(self.troubles),
+            Some(schedule) => self.screen.end(schedule, self.bad_or_refused),
+            None => self.screen.end_unmade(self.bad_or_refused),
         }
     }
 }
@@ -163,23 +163,23 @@ impl Sink for Viewer {
                 machine,
             } => self.after_event(number, event, answer, machine),
             TraceEvent::NotHex => {
-                self.begin_trouble()?;
+                self.begin_and_count()?;
                 self.screen.note_bad_hex(number)
             }
             TraceEvent::NotLoaded { fault } => {
-                self.begin_trouble()?;
+                self.begin_and_count()?;
                 self.screen.note_not_loaded(number, *fault)
             }
             TraceEvent::ProcessorAsked { processor, machine } => {
                 if machine.cpu(*processor).is_some() {
                     return self.begin();
                 }
-                self.begin_trouble()?;
+                self.begin_and_count()?;
                 self.screen.note_no_processor(number, *processor)
             }
             TraceEvent::CounterRead { .. } => Ok(()),
             TraceEvent::Bad { line } => {
-                self.begin_trouble()?;
+                self.begin_and_count()?;
                 self.screen
                     .note_bad_line(self.alloc, number, *line, self.schedule.is_some())
             }

@@ -16,7 +16,7 @@ returns-clause-viewed g c =
     let new = c.simulate.new.sink in
     let seen : IsViewed c.loaded.result.now w left new.sink.sink.viewer =
     run_viewed g.W.Write.contents _ new c.loaded.result.now w c.in_ok-counts.ensures.reported c.in_ok-counts.ensures.wants
-    (c.name_tasks.ensures.schedule ∙ c.requires.schedule) (c.name_tasks.ensures.troubles ∙ c.requires.troubles)
+    (c.name_tasks.ensures.schedule ∙ c.requires.schedule) (c.name_tasks.ensures.bad_or_refused ∙ c.requires.bad_or_refused)
     c.in_ok-counts.ensures.sound in
     let ours : IsViewed c.args.policies.now.loaded w left new.sink.sink.viewer =
     subst (λ (l : List Accepted). IsViewed l w left new.sink.sink.viewer) c.loaded.ensures.value seen in
@@ -26,7 +26,7 @@ returns-clause-viewed g c =
       few = ours.few;
       simulation = ours.simulation;
       schedule = c.count_missed.ensures.schedule ∙ ours.schedule;
-      clean = c.count_missed.ensures.troubles ∙ ours.clean;
+      clean = c.count_missed.ensures.bad_or_refused ∙ ours.clean;
     }
 
 -- where the limit was passed, more came

@@ -35,5 +35,5 @@ loop-init g c = record {
   calls = omega arith;
   so_far =
       Underway-none _ _ _ _ c.new-showing.ensures.progress c.new-showing.ensures.begun c.new-showing.ensures.schedule
-      c.new-showing.ensures.troubles c.new-showing.ensures.blank c.new-showing.ensures.text;
+      c.new-showing.ensures.bad_or_refused c.new-showing.ensures.blank c.new-showing.ensures.text;
 }

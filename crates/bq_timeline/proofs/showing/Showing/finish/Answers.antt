@@ -26,10 +26,10 @@ returns-clause-reported g c = λ begun stands.
       reported = w.reported;
       final = c.run_last_line.new.self.progress;
       story = w.holds;
-      clean = ap (λ k. k == 0) (c.end.ensures.troubles ∙ w.troubles);
+      clean = ap (λ k. k == 0) (c.end.ensures.bad_or_refused ∙ w.bad_or_refused);
       before = before;
-      notes = c.in_ok-notes.ensures.cases ∙ ends.notes ∙ ap (λ (s : Option Figures). before ++ last_notes s new.troubles) w.schedule
-          ∙ ap (λ (k : ℕ). before ++ last_notes (schedule_after old.viewer.schedule w.reported) k) w.troubles;
+      notes = c.in_ok-notes.ensures.cases ∙ ends.notes ∙ ap (λ (s : Option Figures). before ++ last_notes s new.bad_or_refused) w.schedule
+          ∙ ap (λ (k : ℕ). before ++ last_notes (schedule_after old.viewer.schedule w.reported) k) w.bad_or_refused;
       last = state_of new.screen;
       taken = string_bytes new.screen.text;
       text = string_bytes c.end.new.self.screen.text;

@@ -14,6 +14,6 @@ returns-clause-notes c =
       begun = screen;
       begins = c.in_ok-begin.ensures.form;
       notes =
-          c.in_ok-close.ensures.notes ∙ ap (λ (s : Option Figures). notes s begun.troubles) c.begin.ensures.schedule
-          ∙ ap (notes c.args.self.now.schedule) c.begin.ensures.troubles;
+          c.in_ok-close.ensures.notes ∙ ap (λ (s : Option Figures). notes s begun.bad_or_refused) c.begin.ensures.schedule
+          ∙ ap (notes c.args.self.now.schedule) c.begin.ensures.bad_or_refused;
     }
