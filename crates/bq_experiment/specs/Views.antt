@@ -15,7 +15,7 @@ use Rattle.bq_experiment.specs.declared.passing.Passing.{Passing}
 -- The viewer of a run has seen no machine and no line that is bad or refused, and the limit of events is not passed.
 pub record IsUnviewed {W E : Type 0} (run : Limited (Passing OffsetViewer W E)) : Type 0 where
   pub schedule : run.sink.sink.viewer.schedule ≡ None
-  pub troubles : run.sink.sink.viewer.troubles ≡ 0
+  pub bad_or_refused : run.sink.sink.viewer.bad_or_refused ≡ 0
   pub over : run.is_over ≡ false
 
 -- The workload has no flaw. The viewer has the schedule of a simulation of it with these policies, of at most this many events, and has
