@@ -269,7 +269,7 @@ fn show_figures<T: Threads + Sync>(
     mut asked: Comparing,
     event_limit: u64,
 ) -> Result<ExitCode, ExitCode> {
-    let Ok(notes) = asked.add_called(rt.alloc(), workload) else {
+    let Ok(notes) = asked.add_tasks_by_name(rt.alloc(), workload) else {
         return Err(report_out_of_memory(rt));
     };
     match tabled(rt, threads, workload, ours, others, &asked, event_limit) {

@@ -1,14 +1,14 @@
 //! What is asked for, by the words of the command.
 ghost use Rattle.std.specs.Prelude.{◌≡◌, ◌≤◌, ◌↔◌, ◌++◌, IfErr, IfNone, IfOk, IfSome, IsErrOf, None, OnOk, Some, string_bytes};
-ghost use Rattle.bq_timeline.specs.Called.{tasks_for, uncalled_notes};
+ghost use Rattle.bq_timeline.specs.TasksByName.{tasks_for_names, unknown_name_notes};
 ghost use Rattle.bq_timeline.specs.Settings.{optional_word_text};
 ghost use Rattle.bq_comparison.specs.Asking.{AskFor, AskForNone, IsNoComparison, names_stretch, comparing_option_refused, seeds_asked, seeds_in, table_of, comparing_word_refused};
 ghost use Rattle.bq_comparison.specs.declared.asked.ComparingFault.TheVariants as why;
 
 use bq_experiment::{StudyWords, workload_names};
 use bq_report::{Names, Window};
-use bq_timeline::called::{add_called, note_uncalled};
 use bq_timeline::form_names::FormName;
+use bq_timeline::tasks_by_name::{add_tasks_by_name, note_unknown_names};
 use bq_timeline::{RefusedWord, Settings, SettingsFault, Words, word_after};
 use bq_workload::Workload;
 use std::alloc::{AllocError, Global};
@@ -122,7 +122,11 @@ fn names_stretch(words: &Words) -> bool
 impl Comparing {
     /// Adds the tasks that are asked for by name to the tasks that are shown. Returns a note on each name that no task of the
     /// workload has.
-    pub fn add_called(&mut self, alloc: Global, workload: &Workload) -> Result<String, AllocError> {
+    pub fn add_tasks_by_name(
+        &mut self,
+        alloc: Global,
+        workload: &Workload,
+    ) -> Result<String, AllocError> {
         let names = workload_names(alloc, workload)?;
         self.add_by_names(alloc, &names)
     }
@@ -130,14 +134,14 @@ impl Comparing {
     /// Adds the tasks that are asked for by name to the tasks that are shown; `names` has the names of the tasks. Returns a note
     /// on each name that no task has.
     fn add_by_names(&mut self, alloc: Global, names: &Names) -> Result<String, AllocError>
-        ensures tasks { OnOk result (self.new.window.tasks.items ≡ self.old.window.tasks.items ++ tasks_for names.now self.old.names.items) }
-        ensures notes { IfOk result (λ notes. string_bytes notes ≡ uncalled_notes names.now self.old.names.items) }
+        ensures tasks { OnOk result (self.new.window.tasks.items ≡ self.old.window.tasks.items ++ tasks_for_names names.now self.old.names.items) }
+        ensures notes { IfOk result (λ notes. string_bytes notes ≡ unknown_name_notes names.now self.old.names.items) }
         ensures others { (self.new.seeds ≡ self.old.seeds) × (self.new.window.processors ≡ self.old.window.processors) }
     {
         let mut notes = String::new(alloc);
         let asked = self.names.as_slice();
-        note_uncalled(alloc, &mut notes, asked, names)?;
-        add_called(alloc, &mut self.window.tasks, asked, names)?;
+        note_unknown_names(alloc, &mut notes, asked, names)?;
+        add_tasks_by_name(alloc, &mut self.window.tasks, asked, names)?;
         Ok(notes)
     }
 }

@@ -7,7 +7,7 @@ use Rattle.std.proofs.Math.Utf8.{encodes}
 use Rattle.bq_workload.specs.declared.workload.TaskKind.{TaskKind}
 use Rattle.bq_workload.specs.declared.workload.Workload.{Workload}
 use Rattle.bq_report.specs.Names.{Learns, NamedTasks}
-use Rattle.bq_timeline.specs.Called.{shown_letter}
+use Rattle.bq_timeline.specs.TasksByName.{shown_letter}
 
 -- the name of a task, by its number among the tasks of its kind: the kind's name, with the number if the kind has several tasks
 abbrev pub name_of_task : TaskKind → ℕ → List ℕ

@@ -6,7 +6,7 @@ ghost use Rattle.bq_experiment.specs.Names.{LearnsAll, comments_of, name_of_task
 ghost use Rattle.bq_experiment.specs.Traces.{skipped};
 
 use bq_report::Names;
-use bq_timeline::called::shown_letter;
+use bq_timeline::tasks_by_name::shown_letter;
 use bq_timeline::viewer::Viewer;
 use bq_trace::{Sink, TraceEvent};
 use bq_workload::{TaskKind, Workload};

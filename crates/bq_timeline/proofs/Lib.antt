@@ -1,9 +1,9 @@
-pub mod CalledLemmas
 pub mod MeantLemmas
 pub mod NameLemmas
 pub mod NoteLemmas
 pub mod OptionLemmas
 pub mod ShownLemmas
 pub mod TaskLemmas
+pub mod TasksByNameLemmas
 pub mod TextLemmas
 pub mod WatchLemmas

@@ -2,7 +2,7 @@
 use Rattle.std.specs.Prelude.{◌≡◌, ◌++◌, Option, Some, None, string_bytes}
 use Rattle.bq_schedule.specs.Figures.{Figures}
 use Rattle.bq_words.specs.declared.discipline_name.DisciplineName.{DisciplineName}
-use Rattle.bq_timeline.specs.Called.{tasks_for, uncalled_notes}
+use Rattle.bq_timeline.specs.TasksByName.{tasks_for_names, unknown_name_notes}
 use Rattle.bq_timeline.specs.Notes.{absent_notes, last_notes}
 use Rattle.bq_timeline.specs.Shown.{ShowsAsked}
 use Rattle.bq_timeline.specs.declared.screen.Screen.{Screen}
@@ -12,9 +12,9 @@ use Rattle.bq_timeline.specs.declared.viewer.Viewer.{Viewer}
 -- The form that the settings ask for is shown, with the tasks that have the asked names so far. The names that no task has are noted.
 pub record BeginsForm (s : Settings) (old new : Screen) : Type 0 where
   pub shown : ShowsAsked s old.names new.shown
-  pub tasks : new.tasks.items ≡ s.window.tasks.items ++ tasks_for old.names s.names.items
+  pub tasks : new.tasks.items ≡ s.window.tasks.items ++ tasks_for_names old.names s.names.items
   pub part : new.part ≡ old.part
-  pub notes : string_bytes new.notes ≡ string_bytes old.notes ++ uncalled_notes old.names s.names.items
+  pub notes : string_bytes new.notes ≡ string_bytes old.notes ++ unknown_name_notes old.names s.names.items
 
 -- The form does not begin, and nothing changes.
 pub record FormStays (old new : Screen) : Type 0 where

@@ -1,5 +1,4 @@
 pub mod Beginning
-pub mod Called
 pub mod Comments
 pub mod FormTexts
 pub mod Meant
@@ -7,6 +6,7 @@ pub mod Notes
 pub mod ScreenTexts
 pub mod Settings
 pub mod Shown
+pub mod TasksByName
 pub mod Timelines
 pub mod Times
 pub mod TraceTexts

@@ -2,7 +2,7 @@
 use Rattle.std.specs.Prelude.{◌≡◌, ◌++◌, Option, Some, None}
 use Rattle.bq_report.specs.Names.{NamedTasks}
 use Rattle.bq_report.specs.declared.window.Window.{Window}
-use Rattle.bq_timeline.specs.Called.{tasks_for}
+use Rattle.bq_timeline.specs.TasksByName.{tasks_for_names}
 use Rattle.bq_timeline.specs.declared.form_names.FormName.{FormName}
 use Rattle.bq_timeline.specs.declared.form_names.FormName.TheVariants as named
 use Rattle.bq_timeline.specs.declared.settings.Settings.{Settings}
@@ -41,7 +41,7 @@ pub record IsWindowOf (s : Settings) (named : NamedTasks) (window : Window) : Ty
   pub from : window.from ≡ s.window.from
   pub to : window.to ≡ s.window.to
   pub processors : window.processors ≡ s.window.processors
-  pub tasks : window.tasks.items ≡ s.window.tasks.items ++ tasks_for named s.names.items
+  pub tasks : window.tasks.items ≡ s.window.tasks.items ++ tasks_for_names named s.names.items
 
 -- The form and its window are those that the settings ask for, if tasks have these names.
 abbrev pub IsAskedFor : Settings → NamedTasks → Shown → Type 0

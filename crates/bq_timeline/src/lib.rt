@@ -5,7 +5,6 @@
 #![tactic(auto)]
 
 pub mod bounds_table;
-pub mod called;
 mod foreign;
 pub mod form_names;
 mod meant;
@@ -16,6 +15,7 @@ pub mod screen;
 pub mod settings;
 pub mod showing;
 pub mod shown;
+pub mod tasks_by_name;
 mod times;
 pub mod viewer;
 

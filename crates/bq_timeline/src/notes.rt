@@ -4,8 +4,8 @@ ghost use Rattle.std.specs.List.{list_any};
 ghost use Rattle.bq_schedule.specs.Figures.{task_in_figures};
 ghost use Rattle.bq_timeline.specs.Notes.{absent_notes, is_number, lacks_processors, lacks_tasks, past_note, processors_note, reaches, tasks_note, bad_or_refused_note, unmade_note, waiting_note, waiting_notes};
 
-use crate::called::NO_TASK;
 use crate::screen::Part;
+use crate::tasks_by_name::NO_TASK;
 use bq_disc::limits::{PROCESSORS, TASKS};
 use bq_lines::with_first_line;
 use bq_schedule::Schedule;

@@ -1,7 +1,7 @@
 //! What is written of a trace: the form, and the notes, which go to standard error.
 ghost use Rattle.std.specs.Prelude.{◌≡◌, ◌++◌, ℕ, [], IfOk, OnOk, None, Some, string_bytes};
 ghost use Rattle.bq_report.specs.Names.{Learns, name_of};
-ghost use Rattle.bq_timeline.specs.Called.{tasks_for};
+ghost use Rattle.bq_timeline.specs.TasksByName.{tasks_for_names};
 ghost use Rattle.bq_timeline.specs.Beginning.{FormBegins, BeginsForm};
 ghost use Rattle.bq_timeline.specs.Notes.{ChangesOnlyNotes, absent_notes, last_notes};
 ghost use Rattle.bq_timeline.specs.FormTexts.{FormAnswers, IsEmptyForm};
@@ -9,11 +9,11 @@ ghost use Rattle.bq_timeline.specs.ScreenTexts.{FormAppears, FormEndsIf, HasTabl
 ghost use Rattle.bq_timeline.specs.Shown.{IsAskedFor};
 
 use crate::bounds_table::BoundsTable;
-use crate::called::{add_called, note_uncalled};
 use crate::foreign::foreign_text;
 use crate::notes::{note_absent, note_bad_or_refused, note_unmade, note_waiting};
 use crate::settings::Settings;
 use crate::shown::Shown;
+use crate::tasks_by_name::{add_tasks_by_name, note_unknown_names};
 use bq_lines::line_fault::{LineFault, NOT_READ_ON, meant_keyword, why_bad};
 use bq_load::{FaultInWords, LoadFault};
 use bq_parts::{Event, Refusal, Reply};
@@ -119,7 +119,7 @@ impl Screen {
         ensures asked { self.new.asked ≡ self.old.asked }
     {
         let asked = settings.names.as_slice();
-        note_uncalled(alloc, &mut self.notes, asked, &self.names)?;
+        note_unknown_names(alloc, &mut self.notes, asked, &self.names)?;
         let mut shown = self.form_of(alloc, settings)?;
         self.begin_bounds(alloc, discipline, &shown, schedule)?;
         shown.begin(discipline, schedule, &self.names, &mut self.text)?;
@@ -149,7 +149,7 @@ impl Screen {
     fn form_of(&mut self, alloc: Global, settings: Settings) -> Result<Shown, AllocError>
         ensures form { IfOk result (IsAskedFor settings self.old.names) }
         ensures empty { IfOk result (IsEmptyForm settings.width settings.picture_options) }
-        ensures tasks { OnOk result (self.new.tasks.items ≡ settings.window.tasks.items ++ tasks_for self.old.names settings.names.items) }
+        ensures tasks { OnOk result (self.new.tasks.items ≡ settings.window.tasks.items ++ tasks_for_names self.old.names settings.names.items) }
         ensures unchanged { self.new ≡ record self.old { tasks = self.new.tasks } }
     {
         let Settings {
@@ -159,7 +159,7 @@ impl Screen {
             width,
             picture_options,
         } = settings;
-        add_called(alloc, &mut window.tasks, names.as_slice(), &self.names)?;
+        add_tasks_by_name(alloc, &mut window.tasks, names.as_slice(), &self.names)?;
         self.tasks = Vec::from_slice(alloc, window.tasks.as_slice())?;
         Ok(Shown::of(alloc, form, window, width, picture_options))
     }

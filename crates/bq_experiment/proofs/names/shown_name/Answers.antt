@@ -4,7 +4,7 @@ use Rattle.std.proofs.lemmas.List.{map-append}
 use Rattle.std.proofs.lemmas.Str.{encodes-append}
 use Rattle.std.proofs.lemmas.Iterator.{YieldsList-from_chars}
 use Rattle.std.proofs.lemmas.Iterator.Consumers.{YieldsList-end}
-use Rattle.bq_timeline.specs.Called.{shown_letter}
+use Rattle.bq_timeline.specs.TasksByName.{shown_letter}
 use Rattle.bq_experiment.proofs.names.shown_name.Goals as goal
 
 pub loop-letter-preserved : goal.loop-letter-preserved

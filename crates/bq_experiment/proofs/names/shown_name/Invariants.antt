@@ -1,6 +1,6 @@
 use Rattle.std.proofs.Common.{◌≡◌, map, string_bytes}
 use Rattle.std.proofs.Math.Utf8.{encodes}
-use Rattle.bq_timeline.specs.Called.{shown_letter}
+use Rattle.bq_timeline.specs.TasksByName.{shown_letter}
 use Rattle.bq_experiment.proofs.names.shown_name.Given as goal
 
 -- what stands there is shown

@@ -1,6 +1,6 @@
 -- The form begins as it was made, of the tasks and with the notes that the names bring. What it adds stands behind the text.
 use Rattle.std.proofs.Common.{◌++◌, ℕ, List, String, Global, ap, refl, string_bytes, subst, ◌∙◌}
-use Rattle.bq_timeline.specs.Called.{uncalled_notes}
+use Rattle.bq_timeline.specs.TasksByName.{unknown_name_notes}
 use Rattle.bq_timeline.specs.FormTexts.{FormOpens}
 use Rattle.bq_timeline.specs.declared.screen.Screen.{Screen}
 use Rattle.bq_timeline.proofs.ShownLemmas.{stays_asked}
@@ -17,8 +17,8 @@ returns-clause-form c =
       part = ap (λ (s : Screen). s.part) rest ∙ ap (λ (s : Screen). s.part) made;
       notes =
           ap (λ (s : Screen). string_bytes s.notes) rest ∙ ap (λ (s : Screen). string_bytes s.notes) made
-          ∙ c.in_ok-note_uncalled.ensures
-          ∙ ap (λ (names : List (String Global)). string_bytes old.notes ++ uncalled_notes old.names names)
+          ∙ c.in_ok-note_unknown_names.ensures
+          ∙ ap (λ (names : List (String Global)). string_bytes old.notes ++ unknown_name_notes old.names names)
           c.as_slice-asked.ensures.value;
     }
 

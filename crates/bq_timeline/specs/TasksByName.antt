@@ -6,7 +6,7 @@ use Rattle.std.specs.Str.{bytes_eq, chars}
 use Rattle.std.proofs.Math.Utf8.{encodes}
 use Rattle.bq_disc.specs.declared.limits.TheConstants.{TASKS}
 use Rattle.bq_report.specs.Names.{NamedTasks, name_of}
-use Rattle.bq_timeline.specs.declared.called.TheConstants.{QUOTED}
+use Rattle.bq_timeline.specs.declared.tasks_by_name.TheConstants.{QUOTED}
 use Rattle.bq_timeline.specs.Meant.{name_meant}
 
 -- there is another name, and it equals this one
@@ -15,23 +15,23 @@ is_named name None = false
 is_named name (Some other) = bytes_eq other name
 
 -- the tasks below a number that have the name, in order
-unfoldable pub called_below : NamedTasks → List ℕ → ℕ → List ℕ
-called_below named name zero = []
-called_below named name (suc task) = called_below named name task ++ (if is_named name (name_of named task) then task ∷ [] else [])
+unfoldable pub with_name_below : NamedTasks → List ℕ → ℕ → List ℕ
+with_name_below named name zero = []
+with_name_below named name (suc task) = with_name_below named name task ++ (if is_named name (name_of named task) then task ∷ [] else [])
 
 -- the tasks that have the name, among the 1,024 that there can be
-abbrev pub tasks_called : NamedTasks → List ℕ → List ℕ
-tasks_called named name = called_below named name TASKS
+abbrev pub tasks_with_name : NamedTasks → List ℕ → List ℕ
+tasks_with_name named name = with_name_below named name TASKS
 
 -- the tasks that have these names, name after name
-abbrev pub all_called : NamedTasks → List (String Global) → List ℕ
-all_called named names = flat_map (λ name. tasks_called named (string_bytes name)) names
+abbrev pub tasks_with_names : NamedTasks → List (String Global) → List ℕ
+tasks_with_names named names = flat_map (λ name. tasks_with_name named (string_bytes name)) names
 
 -- What names add to the tasks that are shown: the tasks that have them, and a number that no task has. Without that number, names that no
 -- task has would leave an empty list, which means every task
-abbrev pub tasks_for : NamedTasks → List (String Global) → List ℕ
-tasks_for named [] = []
-tasks_for named names = all_called named names ++ (2 ^ 16 - 1) ∷ []
+abbrev pub tasks_for_names : NamedTasks → List (String Global) → List ℕ
+tasks_for_names named [] = []
+tasks_for_names named names = tasks_with_names named names ++ (2 ^ 16 - 1) ∷ []
 
 -- a character as a message shows it: `?` for a control character
 abbrev pub shown_letter : ℕ → ℕ
@@ -55,9 +55,9 @@ meant_note name None = lacking_note name
 meant_note name (Some near) = near_note name near
 
 -- the note on a name, if no task has it
-abbrev pub uncalled_note : NamedTasks → List ℕ → List ℕ
-uncalled_note named name = if nat_lt 0 (length (tasks_called named name)) then [] else meant_note name (name_meant named name)
+abbrev pub unknown_name_note : NamedTasks → List ℕ → List ℕ
+unknown_name_note named name = if nat_lt 0 (length (tasks_with_name named name)) then [] else meant_note name (name_meant named name)
 
 -- the notes on the names that no task has
-abbrev pub uncalled_notes : NamedTasks → List (String Global) → List ℕ
-uncalled_notes named names = flat_map (λ name. uncalled_note named (string_bytes name)) names
+abbrev pub unknown_name_notes : NamedTasks → List (String Global) → List ℕ
+unknown_name_notes named names = flat_map (λ name. unknown_name_note named (string_bytes name)) names

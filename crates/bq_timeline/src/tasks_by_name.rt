@@ -1,7 +1,7 @@
 //! The tasks that are asked for by name.
 ghost use Rattle.std.specs.Prelude.{◌≡◌, ◌++◌, IfOk, OnOk, option_map, string_bytes};
 ghost use Rattle.bq_report.specs.Names.{name_of};
-ghost use Rattle.bq_timeline.specs.Called.{is_named, lacking_note, meant_note, near_note, quoted_name, shown_letter, tasks_called, tasks_for, uncalled_note, uncalled_notes};
+ghost use Rattle.bq_timeline.specs.TasksByName.{is_named, lacking_note, meant_note, near_note, quoted_name, shown_letter, tasks_with_name, tasks_for_names, unknown_name_note, unknown_name_notes};
 
 use crate::meant::name_meant;
 use bq_disc::limits::TASKS;
@@ -13,47 +13,52 @@ use std::alloc::{AllocError, Global};
 pub const NO_TASK: u16 = u16::MAX;
 
 /// Adds the tasks that have the names that are asked for, and `NO_TASK`. Adds nothing if no name is asked for.
-#[tactic(auto, using(crate::proofs::CalledLemmas::tasks_for_some))]
-pub fn add_called(
+#[tactic(auto, using(crate::proofs::TasksByNameLemmas::tasks_for_some_names))]
+pub fn add_tasks_by_name(
     alloc: Global,
     tasks: &mut Vec<u16>,
     asked: &[String],
     names: &Names,
 ) -> Result<(), AllocError>
-    ensures { OnOk result (tasks.new.items ≡ tasks.old.items ++ tasks_for names.now asked.now) }
+    ensures { OnOk result (tasks.new.items ≡ tasks.old.items ++ tasks_for_names names.now asked.now) }
 {
     if asked.is_empty() {
         return Ok(());
     }
     for name in asked {
-        let called = tasks_called(alloc, name.as_str(), names)?;
-        tasks.extend_from_slice(called.as_slice())?;
+        let found = tasks_with_name(alloc, name.as_str(), names)?;
+        tasks.extend_from_slice(found.as_slice())?;
     }
     tasks.push(NO_TASK)?;
     Ok(())
 }
 
 /// Notes the names that no task has.
-pub fn note_uncalled(
+pub fn note_unknown_names(
     alloc: Global,
     notes: &mut String,
     asked: &[String],
     names: &Names,
 ) -> Result<(), AllocError>
-    ensures { OnOk result (string_bytes notes.new ≡ string_bytes notes.old ++ uncalled_notes names.now asked.now) }
+    ensures { OnOk result (string_bytes notes.new ≡ string_bytes notes.old ++ unknown_name_notes names.now asked.now) }
 {
     for name in asked {
-        note_name(alloc, notes, name.as_str(), names)?;
+        note_if_unknown(alloc, notes, name.as_str(), names)?;
     }
     Ok(())
 }
 
 /// Notes a name, if no task has it.
-fn note_name(alloc: Global, notes: &mut String, name: &str, names: &Names) -> Result<(), AllocError>
-    ensures { OnOk result (string_bytes notes.new ≡ string_bytes notes.old ++ uncalled_note names.now name.now) }
+fn note_if_unknown(
+    alloc: Global,
+    notes: &mut String,
+    name: &str,
+    names: &Names,
+) -> Result<(), AllocError>
+    ensures { OnOk result (string_bytes notes.new ≡ string_bytes notes.old ++ unknown_name_note names.now name.now) }
 {
-    let called = tasks_called(alloc, name, names)?;
-    if !called.is_empty() {
+    let found = tasks_with_name(alloc, name, names)?;
+    if !found.is_empty() {
         return Ok(());
     }
     let near = name_meant(alloc, name, names)?;
@@ -120,9 +125,9 @@ pub fn shown_letter(letter: char) -> char
 }
 
 /// The tasks that have the name, in order of their numbers.
-#[tactic(auto, using(crate::proofs::CalledLemmas::called_none, crate::proofs::CalledLemmas::called_on, crate::proofs::CalledLemmas::called_off))]
-fn tasks_called(alloc: Global, name: &str, names: &Names) -> Result<Vec<u16>, AllocError>
-    ensures { IfOk result (λ tasks. tasks.items ≡ tasks_called names.now name.now) }
+#[tactic(auto, using(crate::proofs::TasksByNameLemmas::with_name_none, crate::proofs::TasksByNameLemmas::with_name_on, crate::proofs::TasksByNameLemmas::with_name_off))]
+fn tasks_with_name(alloc: Global, name: &str, names: &Names) -> Result<Vec<u16>, AllocError>
+    ensures { IfOk result (λ tasks. tasks.items ≡ tasks_with_name names.now name.now) }
 {
     let mut tasks = Vec::new(alloc);
     for task in 0..TASKS {

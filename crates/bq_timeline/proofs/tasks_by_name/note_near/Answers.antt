@@ -1,7 +1,7 @@
 -- Both names stand in the note as they are quoted.
 use Rattle.std.proofs.Common.{◌≡◌, ◌++◌, ℕ, List, OnOk, codes, string_bytes, subst}
-use Rattle.bq_timeline.specs.Called.{quoted_name}
-use Rattle.bq_timeline.proofs.called.note_near.Goals as goal
+use Rattle.bq_timeline.specs.TasksByName.{quoted_name}
+use Rattle.bq_timeline.proofs.tasks_by_name.note_near.Goals as goal
 
 pub returns : goal.returns
 returns c =

@@ -4,9 +4,9 @@ use Rattle.std.proofs.lemmas.List.{map-append}
 use Rattle.std.proofs.lemmas.Str.{encodes-append}
 use Rattle.std.proofs.lemmas.Iterator.{YieldsList-from_chars, YieldsList-from_take}
 use Rattle.std.proofs.lemmas.Iterator.Consumers.{YieldsList-end}
-use Rattle.bq_timeline.specs.Called.{shown_letter}
-use Rattle.bq_timeline.specs.declared.called.TheConstants.{QUOTED}
-use Rattle.bq_timeline.proofs.called.quoted.Goals as goal
+use Rattle.bq_timeline.specs.TasksByName.{shown_letter}
+use Rattle.bq_timeline.specs.declared.tasks_by_name.TheConstants.{QUOTED}
+use Rattle.bq_timeline.proofs.tasks_by_name.quoted.Goals as goal
 
 pub loop-letter-preserved : goal.loop-letter-preserved
 loop-letter-preserved c =

@@ -1,6 +1,6 @@
 -- The name stands in the note as it is quoted.
 use Rattle.std.proofs.Common.{◌≡◌, ◌++◌, ℕ, List, OnOk, codes, string_bytes, subst}
-use Rattle.bq_timeline.proofs.called.note_lacking.Goals as goal
+use Rattle.bq_timeline.proofs.tasks_by_name.note_lacking.Goals as goal
 
 pub returns : goal.returns
 returns c =

@@ -1,8 +1,0 @@
-use Rattle.std.proofs.Common.{◌≡◌, ◌++◌, take}
-use Rattle.std.specs.Prelude.{string_bytes}
-use Rattle.bq_timeline.specs.Called.{uncalled_notes}
-use Rattle.bq_timeline.proofs.called.note_uncalled.Given as goal
-
--- the notes on this many names
-abbrev pub invariant-loop-name : goal.invariant-loop-name
-invariant-loop-name l = string_bytes l.notes ≡ string_bytes l.initial.notes ++ uncalled_notes l.names (take l.name-index l.asked)
