@@ -329,7 +329,7 @@ placed-reports processor now d id to s j c inside p st =
     let k = kept-counted processor now d s in
     let m = comes id to at a in
     record {
-      since =
+      waiting_since =
           task_kept (λ (t : TaskFigures). t.waiting_since) m id j _ refl ∙ since-comes id to at a j (omega (arith, k.tasks))
           ∙ ap (λ n. cond (eqb id j) at n) (k.waiting_since j) ∙ then-is (eqb id j) at (task_in_figures s j).waiting_since;
       waited = λ h.
@@ -389,7 +389,7 @@ pulled-reports processor from now d task run s j c inside p st =
     let inside' : j < length a.tasks = omega (arith, k.tasks) in
     let inside'' : j < length t.tasks = omega (arith, inside', tasks-taken processor at task a) in
     record {
-      since =
+      waiting_since =
           since-switched Preempted processor at run t j inside''
           ∙ ap (λ n. cond (gives_way j (running_task (processor_in_figures t processor)) run) at n)
           (since-taken processor at task a j inside' ∙ ap (λ n. cond (is_this j task) at n) (k.waiting_since j))
