@@ -1,6 +1,7 @@
 -- If the counters answer alike and memory does not run out, two steps by one event from one world are one.
 use Rattle.std.proofs.Common.{◌≡◌, ℕ, ◌^◌, ◌<◌, Bool, List, Option, Some, None, refl, sym, subst, ap, ◌∙◌, length, arith, inl, inr}
 use Rattle.std.specs.Prelude.{Result, Ok, Err, unwrap_or}
+use Rattle.std.proofs.lemmas.Option.{same_Some}
 use Rattle.bq_disc.specs.Tasks.{Task}
 use Rattle.bq_disc.specs.Discipline.{Discipline}
 use Rattle.bq_disc.specs.Movable.{movable_to}
@@ -148,10 +149,7 @@ module _ (d : Discipline) where
       let same = decides_one processor _ h.0 k.0 q q' h.1 k.1 (alike_settled calls calls' h.0 k.0 h.2 k.2 alike) in
       (h.3 ∙ rw (same.0, same.1) refl ∙ sym k.3, same.1, h.2 ∙ ap (λ (x : SettledChoice). x.calls) same.0 ∙ sym k.2)
 
-  -- what is there is one, and so is the task that sleeps in an entry
-  some_one : {X : Type 0} (x y : X) (o : Option X) → o ≡ Some x → o ≡ Some y → x ≡ y
-  some_one x y o e f = cc
-
+  -- one task sleeps in an entry
   blocked_one : (t u : Task) (s : LobbyEntry) → s ≡ Sleeping t → s ≡ Sleeping u → t ≡ u
   blocked_one t u s e f = cc
 
@@ -161,7 +159,7 @@ module _ (d : Discipline) where
       → Blocks d processor now p lobby (Ok r) q left → Blocks d processor now p lobby (Ok r') q' left'
       → (r ≡ r') × (q ≡ q') × (left ≡ left')
   blocks_one processor now p lobby r r' q q' left left' h k =
-      let task = some_one h.0 k.0 _ h.1.0 k.1.0 in
+      let task = same_Some h.0 k.0 (sym h.1.0 ∙ k.1.0) in
       let cpus : q ≡ q' = h.1.1 ∙ sym k.1.1 in
       (h.1.2 ∙ rw (task, cpus) refl ∙ sym k.1.2, cpus, h.1.3 ∙ rw task refl ∙ sym k.1.3)
 
@@ -181,7 +179,7 @@ module _ (d : Discipline) where
       → (x ≡ x') × (q ≡ q') × (calls ≡ calls')
   places_one count processor now p calls calls' x x' q q' h k alike =
       let c : Processor = after_time d now p in
-      let carried = some_one h.carried k.carried p.hand h.in_hand k.in_hand in
+      let carried = same_Some h.carried k.carried (sym h.in_hand ∙ k.in_hand) in
       let there = subst (λ (x : Carried). SettlesPlace (by_programs d) count processor c x k.settled) (sym carried) k.settles in
       let same =
       place_one count processor c h.carried h.settled k.settled h.settles there
@@ -266,7 +264,7 @@ module _ (d : Discipline) where
       let same = performs_one w e calls calls' r r' u u' h.1 k.1 alike in
       (ap Ok same.0, same.1, same.2)
   step_one w e calls calls' (Err r) (Err r') u u' h k m m' alike =
-      (ap Err (some_one r r' _ (refused w e calls r u h m) (refused w e calls' r' u' k m')), h.1 ∙ sym k.1, h.0 ∙ sym k.0)
+      (ap Err (same_Some r r' (sym (refused w e calls r u h m) ∙ refused w e calls' r' u' k m')), h.1 ∙ sym k.1, h.0 ∙ sym k.0)
   step_one w e calls calls' (Ok r) (Err r') u u' h k m m' alike = absurd (not_both _ r' h.0 (refused w e calls' r' u' k m'))
   step_one w e calls calls' (Err r) (Ok r') u u' h k m m' alike = absurd (not_both _ r k.0 (refused w e calls r u h m))
 

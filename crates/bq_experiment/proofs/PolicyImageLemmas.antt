@@ -3,18 +3,12 @@ use Rattle.std.proofs.Common.{◌≡◌, ℕ, true, false, Bool, List, [], ◌�
 use Rattle.std.specs.Prelude.{IsSome, is_some}
 use Rattle.std.specs.Option.{option_map}
 use Rattle.bq_hooks.specs.declared.hook.Hook.{Hook}
-use Rattle.bq_hooks.specs.declared.hook.Hook.TheVariants.{Place, Preempt, Pull}
 use Rattle.bq_parts.specs.Refusals.{same_hook}
 use Rattle.bq_simulate.specs.Replays.{AreOfImages, IsLoadedFromImage}
 use Rattle.bq_simulate.specs.Texts.{ByHook}
 use Rattle.bq_simulate.specs.Simulations.{Accepted}
+use Rattle.bq_simulate.proofs.EventTakenLemmas.{same_hook_itself}
 use Rattle.bq_experiment.specs.PoliciesAndImages.{AddsPolicy, AreOfTheirImages, PoliciesAndImages, image_for}
-
--- each hook is the same hook as itself
-itself : (hook : Hook) → same_hook hook hook ≡ true
-itself Place = refl
-itself Preempt = refl
-itself Pull = refl
 
 -- an image that is there stays when one more comes, by cases:
 stays_by : (here : Bool) (image : Option (List ℕ)) (old new : Option (List ℕ)) (bytes : List ℕ)
@@ -39,7 +33,7 @@ comes_by false image old new bytes f free = f free
 
 comes : (images : List (Hook × List ℕ)) (hook : Hook) (bytes : List ℕ)
     → image_for images hook ≡ None → image_for (images ++ (hook, bytes) ∷ []) hook ≡ Some bytes
-comes [] hook bytes free = rw (itself hook) refl
+comes [] hook bytes free = rw (same_hook_itself hook) refl
 comes ((place, image) ∷ images) hook bytes free =
     comes_by (same_hook place hook) image (image_for images hook) (image_for (images ++ (hook, bytes) ∷ []) hook) bytes
     (comes images hook bytes) free

@@ -7,7 +7,7 @@ use Rattle.bq_disc.specs.Discipline.{Discipline, left_at}
 use Rattle.bq_disc.specs.Queues.{HasDistinctIds}
 use Rattle.bq_disc.specs.OneProcessor.{Running, present_at, charge, marked}
 use Rattle.bq_parts.specs.Processors.{HasEachOnce, HasIdsBelowTasks}
-use Rattle.bq_parts.specs.Moves.{taken_from}
+use Rattle.bq_parts.specs.Moves.{taken_from, without_task}
 use Rattle.bq_disc.proofs.SetLemmas.{find_task-id}
 use Rattle.bq_parts.proofs.CountLemmas.{one, one_self, count_of-append, count_of-without, queue_le_present, find_task-absent, each_once_queue, HasEachOnce-left, HasEachOnce-right, HasDistinctIds-from_counts}
 use Rattle.bq_parts.proofs.OnceLemmas.{few_below}
@@ -77,3 +77,8 @@ pub taken_fresh : (d : Discipline) (p q : Running) (now : ℕ) (task : Option �
 taken_fresh d p q now None h = tt
 taken_fresh d p q now (Some id) h =
     fresh_by_case id (marked d q).mark q.queue p.queue (find_task id q.queue) refl (λ t e. pulled_free p q id t h e)
+
+-- a task that leaves the queue leaves the current one as it is
+pub current-without_task : (p : Running) (o : Option ℕ) → (without_task p o).current ≡ p.current
+current-without_task p None = refl
+current-without_task p (Some id) = refl

@@ -23,6 +23,7 @@ use Rattle.bq_parts.specs.Choices.{PolicySemantics, under_any_answers}
 use Rattle.bq_hooks.specs.Permitted.{task_numbered}
 use Rattle.bq_parts.specs.Shares.{after_time, mark_updated}
 use Rattle.bq_parts.specs.Steps.{Performs, WorldStep, WorldRun}
+use Rattle.bq_parts.proofs.PullingLemmas.{current-without_task}
 use Rattle.bq_parts.proofs.RefusalLemmas.{not_refused_is_there, first_refusal_passed, accepted}
 use Rattle.bq_schedule.specs.Histories.{History}
 use Rattle.bq_schedule.specs.Slices.{ShownByAnswer, shown_by_reply, shown_by_answer, clock_after, clock, runner_after, runner}
@@ -130,14 +131,10 @@ last-started_if_idle : (d : Discipline) (p : Running) (o : Option Task) → (sta
 last-started_if_idle d p None = last-run_id p (id_of (d.choice p.queue))
 last-started_if_idle d p (Some t) = refl
 
--- to take a waiting task away leaves the clock, and who runs:
+-- to take a waiting task away leaves the clock
 last-without_task : (p : Running) (o : Option ℕ) → (without_task p o).last ≡ p.last
 last-without_task p None = refl
 last-without_task p (Some id) = refl
-
-current-without_task : (p : Running) (o : Option ℕ) → (without_task p o).current ≡ p.current
-current-without_task p None = refl
-current-without_task p (Some id) = refl
 
 -- who runs is charged, and is who it was
 id-charged : (d : Discipline) (o : Option Task) (time : ℕ) → id_of (option_map (λ (t : Task). charged d t time) o) ≡ id_of o

@@ -33,6 +33,7 @@ use Rattle.bq_parts.specs.Steps.{WorldStep}
 use Rattle.bq_parts.proofs.CountLemmas.{each_once_queue}
 use Rattle.bq_parts.proofs.OnceLemmas.{each_once_running}
 use Rattle.bq_parts.proofs.PermittedLemmas.{may_pull_names, own_pull_permitted, settled_permitted}
+use Rattle.bq_parts.proofs.PullingLemmas.{current-without_task}
 use Rattle.bq_parts.proofs.TallyLemmas.{tally, tally-charge}
 use Rattle.bq_core.proofs.MoveLemmas.{tally-after_leaving, tally-pulled, tally-without_task}
 use Rattle.bq_core.proofs.EachProcessorLemmas.{at_set_else}
@@ -186,11 +187,6 @@ moved_by_case processor n p None may e = refl
 moved_by_case processor n p (Some id) may e =
     moved_one processor (left_at p.mark) (find_task id p.queue) (may_pull_names processor p.queue n id may e)
 
--- what goes from a queue leaves the task that runs
-current_stays : (p : Running) (task : Option ℕ) → (without_task p task).current ≡ p.current
-current_stays p None = refl
-current_stays p (Some id) = refl
-
 -- both processors are as the accounts say, and the states are as they were
 pub record Pulled (w : World) (a b : Accounts) : Type 0 where
   pub processors : RunsAs w b
@@ -326,7 +322,7 @@ pull_kept d periods w v a processor from now calls r h low low' apart step =
       ap (λ (y : Processor). tally each (present_at y.running)) x.here,
     ) in
     let stays : id_of other.running.current ≡ id_of (processor_at w from).running.current =
-    ap (λ (y : Processor). id_of y.running.current) x.there ∙ ap id_of (current_stays source.running task) in
+    ap (λ (y : Processor). id_of y.running.current) x.there ∙ ap id_of (current-without_task source.running task) in
     let form : World = with_processor (with_processor w from other) processor q in
     let is : v ≡ form = k.3 ∙ ap (λ ps. record w { processors = ps }) (set_comm w.processors processor from q other apart) in
     let b : Accounts = accounts_switched processor (runs_now r) now periods (option_map_or (λ _. accounts_passed from processor a) (task_pulled r) a) in
@@ -366,7 +362,7 @@ draws_are_taken d periods w a h =
     }
 
 -- a hook is the same as itself
-same_hook_itself : (hook : Hook) → same_hook hook hook ≡ true
+pub same_hook_itself : (hook : Hook) → same_hook hook hook ≡ true
 same_hook_itself hooks.Place = refl
 same_hook_itself hooks.Preempt = refl
 same_hook_itself hooks.Pull = refl
