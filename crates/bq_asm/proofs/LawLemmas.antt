@@ -11,6 +11,7 @@ use Rattle.bq_insn.specs.declared.Insn.{Insn}
 use Rattle.bq_insn.specs.Slots.{slots_of}
 use Rattle.bq_insn.specs.Spelling.{slot_count}
 use Rattle.bq_insn.proofs.CountLemmas.{slot_count-cons}
+use Rattle.bq_insn.proofs.OptionLemmas.{some_none}
 use Rattle.bq_asm.specs.declared.fault.AssemblyCause.{AssemblyCause}
 use Rattle.bq_asm.specs.declared.fault.AssemblyCause.TheVariants.{LabelMissing, Slots}
 use Rattle.bq_asm.specs.declared.mnemonic.Mnemonic.{Mnemonic}
@@ -151,10 +152,6 @@ none_missing places slot (Instruction first operands ∷ lines) (i ∷ insns) h 
 none_missing places slot (Instruction first operands ∷ lines) (i ∷ insns) h (suc k) =
     none_missing places (slot + slots_of i) lines insns h.1 k
 
--- nothing is not something
-none_is_some : {A : Type 0} (o : Option A) (x : A) → o ≡ None → o ≡ Some x → ⊥
-none_is_some o x h k = let no : None ≡ Some x = sym h ∙ k in cc
-
 -- no line of a text that stands for instructions jumps to a label that is missing
 missing_none : (text : List ℕ) (insns : List Insn) → Assembles text insns → (k : ℕ) → missing_at (lines_of text) k ≡ None
 missing_none text insns h zero = refl
@@ -166,26 +163,26 @@ no_program_is_faulty text insns line c h f =
     let clean = assembled_clean text insns h in
     let count = assembles_count (places_from 0 (lines_of text)) 0 (lines_of text) insns h.assembles in
     let some = h.some in
-    ⊎_elim (λ first. none_is_some (fault_at (lines_of text) line) c (clean line) first.0)
+    ⊎_elim (λ first. some_none (fault_at (lines_of text) line) c first.0 (clean line))
     (λ whole.
     ⊎_elim (λ none. let zero = none.1 in omega (arith, zero, count, some))
-    (λ missing. none_is_some (missing_at (lines_of text) line) c (missing_none text insns h line) missing.2.0) whole) f
+    (λ missing. some_none (missing_at (lines_of text) line) c missing.2.0 (missing_none text insns h line)) whole) f
 
 -- the first is one
 one_first : (f : ℕ → Option AssemblyCause) (m n : ℕ) (c d : AssemblyCause) → IsFirstCause f m c → IsFirstCause f n d → (m ≡ n) × (c ≡ d)
 one_first f m n c d h k = ⊎_elim
     (λ e. let both : Some c ≡ Some d = sym h.0 ∙ ap f e ∙ k.0 in (e, cc))
-    (λ apart. ⊎_elim (λ lt. absurd (none_is_some (f m) c (k.1 m lt) h.0)) (λ gt. absurd (none_is_some (f n) d (h.1 n gt) k.0)) apart)
+    (λ apart. ⊎_elim (λ lt. absurd (some_none (f m) c h.0 (k.1 m lt))) (λ gt. absurd (some_none (f n) d k.0 (h.1 n gt))) apart)
     (cases_order m n)
 
 -- a text has at most one fault: one line, and there one cause
 pub one_fault : TextHasOneFault
 one_fault text m n c d h k =
     ⊎_elim (λ a. ⊎_elim (λ b. one_first (fault_at lines) m n c d a b)
-    (λ b. absurd (⊎_elim (λ x. none_is_some (fault_at lines m) c (x.0 m) a.0) (λ x. none_is_some (fault_at lines m) c (x.0 m) a.0) b)) k)
+    (λ b. absurd (⊎_elim (λ x. some_none (fault_at lines m) c a.0 (x.0 m)) (λ x. some_none (fault_at lines m) c a.0 (x.0 m)) b)) k)
     (λ a.
     ⊎_elim
-    (λ b. absurd (⊎_elim (λ x. none_is_some (fault_at lines n) d (x.0 n) b.0) (λ x. none_is_some (fault_at lines n) d (x.0 n) b.0) a))
+    (λ b. absurd (⊎_elim (λ x. some_none (fault_at lines n) d b.0 (x.0 n)) (λ x. some_none (fault_at lines n) d b.0 (x.0 n)) a))
     (λ b. whole a b) k) h
   where
     lines : List Line
