@@ -125,6 +125,8 @@ SHUT = [
 # What may stand in two places, and why.
 ALLOWED = {
     'the same lemma: bq_comparison/proofs/RangeLemmas.antt: flat_map-range_more, bq_policy_run/proofs/ChangeLemmas.antt: flat_map-range_more': 'a fact of the library\'s ranges, which it has no lemma for; neither crate stands on the other',
+    'the same lemma: bq_core/proofs/OnTheWayLemmas.antt: same_everywhere, bq_schedule/proofs/TotalLemmas.antt: same_everywhere': 'a fact of lists of one value, which the library has for places within them only; neither crate stands on the other',
+    'the same lemma: bq_drawing/proofs/PictureLemmas.antt: shapes_next, bq_explain/proofs/LineLemmas.antt: one_line_more': 'a fact of the library\'s `flat_map`, which it has no lemma for; neither crate stands on the other',
     'the same lemma: bq_insn/proofs/EncodeLemmas.antt: on_err, bq_report/proofs/NameLemmas.antt: where_err, bq_streams/proofs/ResultLemmas.antt: OnErr-anyhow': 'a fact of the library\'s results, which it has no lemma for; no crate below all three could have it',
     'how many slots or bytes a program has at most, in words: bq_asm_faults/src/number_reason.rt': 'the least offset and distance of 16 bits, -32768',
     'how many slots a program has at most: bq_object/src/line_table.rt': 'the crate reads objects and stands on no crate of instructions, so its own bound on lines says the number once more',
