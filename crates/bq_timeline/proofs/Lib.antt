@@ -1,8 +1,8 @@
+pub mod AnyFormLemmas
 pub mod MeantLemmas
 pub mod NameLemmas
 pub mod NoteLemmas
 pub mod OptionLemmas
-pub mod ShownLemmas
 pub mod TaskLemmas
 pub mod TasksByNameLemmas
 pub mod TextLemmas

@@ -16,15 +16,15 @@ use Rattle.bq_timeline.specs.TraceTexts.{AnswerShows, ScreenTakes, ScreenTakesAl
 use Rattle.bq_timeline.specs.Watching.{schedule_after, schedule_after_event}
 use Rattle.bq_timeline.specs.declared.bounds_table.BoundsTable.{BoundsTable}
 use Rattle.bq_timeline.specs.declared.settings.Settings.{Settings}
-use Rattle.bq_timeline.specs.declared.shown.Shown.{Shown}
-use Rattle.bq_timeline.specs.declared.shown.Shown.TheVariants as form
+use Rattle.bq_timeline.specs.declared.any_form.AnyForm.{AnyForm}
+use Rattle.bq_timeline.specs.declared.any_form.AnyForm.TheVariants as form
 
 -- a text that has grown by a part has done so behind another text
 grows_behind : (Is : List ℕ → Type 0) (p before after : List ℕ) → GrowsByPart Is before after → GrowsByPart Is (p ++ before) (p ++ after)
 grows_behind Is p before after h = (h.0, h.1, ap (λ t. p ++ t) h.2 ∙ sym (append_assoc p before h.0))
 
 -- a form begins behind another text as it does without it
-opens_behind : (p : List ℕ) (discipline : DisciplineName) (s : Figures) (old new : Shown) (before after : List ℕ)
+opens_behind : (p : List ℕ) (discipline : DisciplineName) (s : Figures) (old new : AnyForm) (before after : List ℕ)
     → FormOpens discipline s old new before after → FormOpens discipline s old new (p ++ before) (p ++ after)
 opens_behind p discipline s (form.Report old) (form.Report new) before after h = (h.0, ap (λ t. p ++ t) h.1)
 opens_behind p discipline s (form.Map old) (form.Map new) before after h = (h.0, h.1, ap (λ t. p ++ t) h.2)
@@ -37,7 +37,7 @@ opens_behind p discipline s (form.Why old) (form.Why new) before after h = tt
 opens_behind p discipline s old new before after h = absurd h
 
 -- a change is added to a form behind another text as without it
-adds_behind : (p : List ℕ) (change : Change) (s : Figures) (names : NamedTasks) (old new : Shown) (before after : List ℕ)
+adds_behind : (p : List ℕ) (change : Change) (s : Figures) (names : NamedTasks) (old new : AnyForm) (before after : List ℕ)
     → FormAddsChange change s names old new before after → FormAddsChange change s names old new (p ++ before) (p ++ after)
 adds_behind p change s names (form.Report old) (form.Report new) before after h = (h.0, h.1, h.2, ap (λ t. p ++ t) h.3)
 adds_behind p change s names (form.Map old) (form.Map new) before after h = (h.0, h.1, ap (λ t. p ++ t) h.2)
@@ -72,7 +72,7 @@ begins_behind p (Some s) (Some discipline) (Some asked) old new before after h =
 begins_behind p s discipline asked old new before after h = (h.0, ap (λ t. p ++ t) h.1)
 
 -- a form that there may be takes an event behind another text as it does without it
-shows_behind : (p : List ℕ) (event : Event) (change : Change) (s : Figures) (names : NamedTasks) (old new : Option Shown) (before after : List ℕ)
+shows_behind : (p : List ℕ) (event : Event) (change : Change) (s : Figures) (names : NamedTasks) (old new : Option AnyForm) (before after : List ℕ)
     → IfShown (FormAnswers event change s names) old new before after → IfShown (FormAnswers event change s names) old new (p ++ before) (p ++ after)
 shows_behind p event change s names None new before after h = (h.0, ap (λ t. p ++ t) h.1)
 shows_behind p event change s names (Some old) (Some new) before after h =
@@ -132,7 +132,7 @@ all_append s old mid new ((n, traced) ∷ xs) ys before text after h k =
     (h.0, h.1, h.2, all_append (schedule_after_event s traced) h.0 mid new xs ys h.1 text after h.3 k)
 
 -- a form ends behind another text as it does without it
-ends_behind : (p : List ℕ) (s : Figures) (names : NamedTasks) (shown : Shown) (before after : List ℕ)
+ends_behind : (p : List ℕ) (s : Figures) (names : NamedTasks) (shown : AnyForm) (before after : List ℕ)
     → FormEnds s names shown before after → FormEnds s names shown (p ++ before) (p ++ after)
 ends_behind p s names (form.Report old) before after h = grows_behind _ p before after h
 ends_behind p s names (form.Map old) before after h = (h.0, h.1, grows_behind _ p before after h.2)
@@ -144,7 +144,7 @@ ends_behind p s names (form.Perfetto old) before after h = grows_behind _ p befo
 ends_behind p s names (form.Why old) before after h = tt
 
 -- a form that there may be ends behind another text as it does without it
-ends_if_behind : (p : List ℕ) (s : Figures) (names : NamedTasks) (shown : Option Shown) (before after : List ℕ)
+ends_if_behind : (p : List ℕ) (s : Figures) (names : NamedTasks) (shown : Option AnyForm) (before after : List ℕ)
     → FormEndsIf s names shown before after → FormEndsIf s names shown (p ++ before) (p ++ after)
 ends_if_behind p s names None before after h = ap (λ t. p ++ t) h
 ends_if_behind p s names (Some shown) before after h = ends_behind p s names shown before after h

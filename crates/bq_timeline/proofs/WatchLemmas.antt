@@ -20,8 +20,8 @@ use Rattle.bq_timeline.specs.Timelines.{Closes, IsTimeline, TakesEvent, Watches,
 use Rattle.bq_timeline.specs.TraceTexts.{IsBlank, ScreenTakesAll, TextCloses}
 use Rattle.bq_timeline.specs.Watching.{schedule_after, bad_or_refused_after_event, bad_or_refused_after, schedule_after_event}
 use Rattle.bq_timeline.specs.declared.settings.Settings.{Settings}
-use Rattle.bq_timeline.specs.declared.showing.Outcome.{Outcome}
-use Rattle.bq_timeline.specs.declared.showing.Showing.{Showing}
+use Rattle.bq_timeline.specs.declared.whole_timeline.Outcome.{Outcome}
+use Rattle.bq_timeline.specs.declared.whole_timeline.TimelineSoFar.{TimelineSoFar}
 use Rattle.bq_timeline.specs.declared.viewer.Viewer.{Viewer}
 use Rattle.bq_timeline.proofs.TextLemmas.{all_append, all_behind, closes_behind}
 
@@ -91,7 +91,7 @@ bad_or_refused_after-append k [] ys = refl
 bad_or_refused_after-append k ((n, x) ∷ xs) ys = bad_or_refused_after-append (bad_or_refused_after_event k x) xs ys
 
 -- The reader gave input, whose whole lines the viewer got, and the rest has begun. The output got the text of these lines.
-pub record Underway (asked : Settings) (from to was now : Option (List ℕ)) (showing : Showing) : Type 0 where
+pub record Underway (asked : Settings) (from to was now : Option (List ℕ)) (timeline : TimelineSoFar) : Type 0 where
   pub input : List ℕ
   pub reported : Reported
   pub ended : List (List ℕ)
@@ -99,23 +99,23 @@ pub record Underway (asked : Settings) (from to was now : Option (List ℕ)) (sh
   pub consumed : Consumes from to input
   pub whole : input ≡ with_feeds ended ++ rest
   pub each : AllByRecursion IsOneLine ended
-  pub story : Story opening_progress (map strip_carriage_return ended) reported showing.position.progress
-  pub stands : KeepsLine showing.position.begun rest
-  pub schedule : showing.viewer.schedule ≡ schedule_after None reported
-  pub bad_or_refused : showing.viewer.bad_or_refused ≡ bad_or_refused_after 0 reported
+  pub story : Story opening_progress (map strip_carriage_return ended) reported timeline.position.progress
+  pub stands : KeepsLine timeline.position.begun rest
+  pub schedule : timeline.viewer.schedule ≡ schedule_after None reported
+  pub bad_or_refused : timeline.viewer.bad_or_refused ≡ bad_or_refused_after 0 reported
   pub first : ScreenState
   pub text : List ℕ
   pub blank : IsBlank asked first
-  pub takes : ScreenTakesAll None first reported (state_of showing.viewer.screen) [] text
+  pub takes : ScreenTakesAll None first reported (state_of timeline.viewer.screen) [] text
   pub wrote : Appends was now text
-  pub empty : string_bytes showing.viewer.screen.text ≡ []
+  pub empty : string_bytes timeline.viewer.screen.text ≡ []
 
 -- at the start nothing has been read, and nothing written
-pub Underway-none : (asked : Settings) (from was : Option (List ℕ)) (showing : Showing)
-    → showing.position.progress ≡ opening_progress → showing.position.begun ≡ Some [] → showing.viewer.schedule ≡ None
-    → showing.viewer.bad_or_refused ≡ 0 → IsBlank asked (state_of showing.viewer.screen) → string_bytes showing.viewer.screen.text ≡ []
-    → Underway asked from from was was showing
-Underway-none asked from was showing first nothing schedule bad_or_refused blank empty = record {
+pub Underway-none : (asked : Settings) (from was : Option (List ℕ)) (timeline : TimelineSoFar)
+    → timeline.position.progress ≡ opening_progress → timeline.position.begun ≡ Some [] → timeline.viewer.schedule ≡ None
+    → timeline.viewer.bad_or_refused ≡ 0 → IsBlank asked (state_of timeline.viewer.screen) → string_bytes timeline.viewer.screen.text ≡ []
+    → Underway asked from from was was timeline
+Underway-none asked from was timeline first nothing schedule bad_or_refused blank empty = record {
   input = [];
   reported = [];
   ended = [];
@@ -127,7 +127,7 @@ Underway-none asked from was showing first nothing schedule bad_or_refused blank
   stands = subst (λ k. KeepsLine k []) (sym nothing) stands_for_nothing;
   schedule = schedule;
   bad_or_refused = bad_or_refused;
-  first = state_of showing.viewer.screen;
+  first = state_of timeline.viewer.screen;
   text = [];
   blank = blank;
   takes = (refl, refl);
@@ -146,7 +146,7 @@ shown_behind p pending after s before old new reported schedule empty h =
     (all_behind p s old reported new pending after h)))
 
 -- a piece that is read, told and written leaves the timeline underway
-pub Underway-more : (asked : Settings) (from mid to was between now : Option (List ℕ)) (s t : Showing) (piece : List ℕ)
+pub Underway-more : (asked : Settings) (from mid to was between now : Option (List ℕ)) (s t : TimelineSoFar) (piece : List ℕ)
     → (h : Underway asked from mid was between s) → Consumes mid to piece
     → WatchesAndWrites s.viewer t.viewer between now (λ reported. ReportsPiece s.position h.rest piece reported t.position)
     → string_bytes t.viewer.screen.text ≡ []
@@ -182,13 +182,13 @@ Underway-more asked from mid to was between now s t piece h consumed written emp
     }
 
 -- a timeline whose reader has no more and whose last line is reported is done
-pub Underway-ends : (asked : Settings) (from mid to was between now : Option (List ℕ)) (showing : Showing) (outcome : Outcome)
-    → (h : Underway asked from mid was between showing) → Consumes mid to [] → IsAtEnd to → Closes showing h.rest between now outcome
+pub Underway-ends : (asked : Settings) (from mid to was between now : Option (List ℕ)) (timeline : TimelineSoFar) (outcome : Outcome)
+    → (h : Underway asked from mid was between timeline) → Consumes mid to [] → IsAtEnd to → Closes timeline h.rest between now outcome
     → IsTimeline asked from to was now outcome
-Underway-ends asked from mid to was between now showing outcome h consumed at_end f =
-    let count : bad_or_refused_after showing.viewer.bad_or_refused f.reported ≡ bad_or_refused_after 0 (h.reported ++ f.reported) =
+Underway-ends asked from mid to was between now timeline outcome h consumed at_end f =
+    let count : bad_or_refused_after timeline.viewer.bad_or_refused f.reported ≡ bad_or_refused_after 0 (h.reported ++ f.reported) =
     ap (λ k. bad_or_refused_after k f.reported) h.bad_or_refused ∙ sym (bad_or_refused_after-append 0 h.reported f.reported) in
-    let last : schedule_after showing.viewer.schedule f.reported ≡ schedule_after None (h.reported ++ f.reported) =
+    let last : schedule_after timeline.viewer.schedule f.reported ≡ schedule_after None (h.reported ++ f.reported) =
     ap (λ s. schedule_after s f.reported) h.schedule ∙ sym (schedule_after-append None h.reported f.reported) in
     record {
       input = h.input;
@@ -199,11 +199,11 @@ Underway-ends asked from mid to was between now showing outcome h consumed at_en
       story =
           subst (λ ls. Story opening_progress ls (h.reported ++ f.reported) f.final)
           (sym (ap lines h.whole ∙ lines-with_feeds h.ended h.rest h.each))
-          (Story-append opening_progress showing.position.progress f.final (map strip_carriage_return h.ended)
+          (Story-append opening_progress timeline.position.progress f.final (map strip_carriage_return h.ended)
           (lines h.rest) h.reported f.reported h.story f.story);
       clean = f.clean ∙ ap (λ k. k == 0) count;
       before = f.before;
-      notes = f.notes ∙ ap (λ k. f.before ++ last_notes (schedule_after showing.viewer.schedule f.reported) k) count
+      notes = f.notes ∙ ap (λ k. f.before ++ last_notes (schedule_after timeline.viewer.schedule f.reported) k) count
           ∙ ap (λ s. f.before ++ last_notes s (bad_or_refused_after 0 (h.reported ++ f.reported))) last;
       text = h.text ++ f.text;
       shown = record {
@@ -212,12 +212,12 @@ Underway-ends asked from mid to was between now showing outcome h consumed at_en
         taken = h.text ++ f.taken;
         blank = h.blank;
         takes =
-            all_append None h.first (state_of showing.viewer.screen) f.last h.reported f.reported [] h.text (h.text ++ f.taken) h.takes
-            (shown_behind h.text (string_bytes showing.viewer.screen.text) f.taken showing.viewer.schedule h.reported
-            (state_of showing.viewer.screen) f.last f.reported h.schedule h.empty f.takes);
+            all_append None h.first (state_of timeline.viewer.screen) f.last h.reported f.reported [] h.text (h.text ++ f.taken) h.takes
+            (shown_behind h.text (string_bytes timeline.viewer.screen.text) f.taken timeline.viewer.schedule h.reported
+            (state_of timeline.viewer.screen) f.last f.reported h.schedule h.empty f.takes);
         closes =
             subst (λ (s : Option Figures). TextCloses s f.last (h.text ++ f.taken) (h.text ++ f.text)) last
-            (closes_behind h.text (schedule_after showing.viewer.schedule f.reported) f.last f.taken f.text f.closes);
+            (closes_behind h.text (schedule_after timeline.viewer.schedule f.reported) f.last f.taken f.text f.closes);
       };
       wrote = Appends-trans was between now h.text f.text h.wrote f.wrote;
     }

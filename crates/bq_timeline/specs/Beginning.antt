@@ -4,7 +4,7 @@ use Rattle.bq_schedule.specs.Figures.{Figures}
 use Rattle.bq_words.specs.declared.discipline_name.DisciplineName.{DisciplineName}
 use Rattle.bq_timeline.specs.TasksByName.{tasks_for_names, unknown_name_notes}
 use Rattle.bq_timeline.specs.Notes.{absent_notes, last_notes}
-use Rattle.bq_timeline.specs.Shown.{ShowsAsked}
+use Rattle.bq_timeline.specs.AnyForms.{ShowsAsked}
 use Rattle.bq_timeline.specs.declared.screen.Screen.{Screen}
 use Rattle.bq_timeline.specs.declared.settings.Settings.{Settings}
 use Rattle.bq_timeline.specs.declared.viewer.Viewer.{Viewer}

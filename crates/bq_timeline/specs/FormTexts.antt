@@ -25,11 +25,11 @@ use Rattle.bq_drawing.specs.PastEvents.{empty_past}
 use Rattle.bq_drawing.specs.Holdings.{HoldsChange, nothing_of}
 use Rattle.bq_drawing.specs.Perfetto.{IsPerfettoHead, IsPerfettoOf, IsPerfettoTail}
 use Rattle.bq_drawing.specs.Pictures.{IsPictureOf}
-use Rattle.bq_timeline.specs.declared.shown.Shown.{Shown}
-use Rattle.bq_timeline.specs.declared.shown.Shown.TheVariants as form
+use Rattle.bq_timeline.specs.declared.any_form.AnyForm.{AnyForm}
+use Rattle.bq_timeline.specs.declared.any_form.AnyForm.TheVariants as form
 
 -- A form to which nothing has happened: a map of this width, a picture with these options.
-abbrev pub IsEmptyForm : ℕ → PictureOptions → Shown → Type 0
+abbrev pub IsEmptyForm : ℕ → PictureOptions → AnyForm → Type 0
 IsEmptyForm width picture_options (form.Report r) = ((task : ℕ) → latencies_of r.latencies task ≡ []) × (r.missed ≡ 0)
 IsEmptyForm width picture_options (form.Map m) = (m.width ≡ width) × (m.admitted ≡ []) × (m.rows.items ≡ [])
 IsEmptyForm width picture_options (form.Json j) = ((task : ℕ) → latencies_of j.latencies task ≡ []) × (j.missed ≡ 0)
@@ -39,7 +39,7 @@ IsEmptyForm width picture_options other = Unit {0}
 
 -- A form begins under a discipline, with a schedule to which nothing has happened: it and its text, before and after. A picture's title names
 -- the discipline.
-abbrev pub FormOpens : DisciplineName → Figures → Shown → Shown → List ℕ → List ℕ → Type 0
+abbrev pub FormOpens : DisciplineName → Figures → AnyForm → AnyForm → List ℕ → List ℕ → Type 0
 FormOpens discipline s (form.Report old) (form.Report new) before after = (new ≡ old) × (after ≡ before)
 FormOpens discipline s (form.Map old) (form.Map new) before after =
     (new.rows.items ≡ old.rows.items ++ replicate (length s.processors) empty_map_row) × KeepsSettings old new × (after ≡ before)
@@ -54,18 +54,18 @@ FormOpens discipline s (form.Why old) (form.Why new) before after = Unit {0}
 FormOpens discipline s old new before after = ⊥
 
 -- A task is admitted. The map and the picture give it the next letter or colour. No other form uses it.
-abbrev pub FormAdmits : ℕ → Shown → Shown → Type 0
+abbrev pub FormAdmits : ℕ → AnyForm → AnyForm → Type 0
 FormAdmits task (form.Map old) new = new ≡ form.Map (record old { admitted = with_admitted task old.admitted })
 FormAdmits task (form.Svg old) new = new ≡ form.Svg (record old { admitted = with_admitted task old.admitted })
 FormAdmits task old new = new ≡ old
 
 -- The form is given the task of an event that admits one.
-abbrev pub FormAdmitsTaskOf : Event → Shown → Shown → Type 0
+abbrev pub FormAdmitsTaskOf : Event → AnyForm → AnyForm → Type 0
 FormAdmitsTaskOf (Admit task nice mask slice) old new = FormAdmits task old new
 FormAdmitsTaskOf event old new = new ≡ old
 
 -- A change is added to a form, with the schedule after it: the form and its text, before and after.
-abbrev pub FormAddsChange : Change → Figures → NamedTasks → Shown → Shown → List ℕ → List ℕ → Type 0
+abbrev pub FormAddsChange : Change → Figures → NamedTasks → AnyForm → AnyForm → List ℕ → List ℕ → Type 0
 FormAddsChange change s names (form.Report old) (form.Report new) before after =
     TakesStart change.start old.latencies new.latencies × (new.window ≡ old.window) × (new.missed ≡ old.missed) × (after ≡ before)
 FormAddsChange change s names (form.Map old) (form.Map new) before after =
@@ -89,13 +89,13 @@ FormAddsChange change s names (form.Why old) (form.Why new) before after = Unit 
 FormAddsChange change s names old new before after = ⊥
 
 -- An event was done. The form is given its task, if it admits one, and then what it changed.
-pub record FormAnswers (event : Event) (change : Change) (s : Figures) (names : NamedTasks) (old new : Shown) (before after : List ℕ) : Type 0 where
-  pub given : Shown
+pub record FormAnswers (event : Event) (change : Change) (s : Figures) (names : NamedTasks) (old new : AnyForm) (before after : List ℕ) : Type 0 where
+  pub given : AnyForm
   pub admits : FormAdmitsTaskOf event old given
   pub adds : FormAddsChange change s names given new before after
 
 -- A form ends, with the schedule of the whole trace: its text before and after.
-abbrev pub FormEnds : Figures → NamedTasks → Shown → List ℕ → List ℕ → Type 0
+abbrev pub FormEnds : Figures → NamedTasks → AnyForm → List ℕ → List ℕ → Type 0
 FormEnds s names (form.Report old) before after = GrowsByPart (IsReport old.window names s old.latencies old.missed) before after
 FormEnds s names (form.Map old) before after =
     (rows : List RunsRow) × HoldsLast old.window s PROCESSORS old.rows.items rows

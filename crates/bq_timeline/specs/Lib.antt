@@ -1,3 +1,4 @@
+pub mod AnyForms
 pub mod Beginning
 pub mod Comments
 pub mod FormTexts
@@ -5,7 +6,6 @@ pub mod Meant
 pub mod Notes
 pub mod ScreenTexts
 pub mod Settings
-pub mod Shown
 pub mod TasksByName
 pub mod Timelines
 pub mod Times

@@ -8,19 +8,19 @@ use Rattle.bq_schedule.specs.Figures.{Figures}
 use Rattle.bq_report.specs.Names.{NamedTasks}
 use Rattle.bq_words.specs.declared.discipline_name.DisciplineName.{DisciplineName}
 use Rattle.bq_timeline.specs.FormTexts.{FormAnswers, FormEnds, FormOpens, IsEmptyForm}
-use Rattle.bq_timeline.specs.Shown.{IsAskedFor}
+use Rattle.bq_timeline.specs.AnyForms.{IsAskedFor}
 use Rattle.bq_timeline.specs.declared.bounds_table.BoundsTable.{BoundsTable}
 use Rattle.bq_timeline.specs.declared.screen.Screen.{Screen}
 use Rattle.bq_timeline.specs.declared.settings.Settings.{Settings}
-use Rattle.bq_timeline.specs.declared.shown.Shown.{Shown}
-use Rattle.bq_timeline.specs.declared.shown.Shown.TheVariants as form
+use Rattle.bq_timeline.specs.declared.any_form.AnyForm.{AnyForm}
+use Rattle.bq_timeline.specs.declared.any_form.AnyForm.TheVariants as form
 
 -- what a screen holds besides its text and its notes
 pub record ScreenState : Type 0 where
   pub names : NamedTasks
   pub asked : Option Settings
   pub discipline : Option DisciplineName
-  pub shown : Option Shown
+  pub shown : Option AnyForm
   pub bounds : Option BoundsTable
 
 -- what this screen holds besides its text and its notes
@@ -30,16 +30,16 @@ state_of screen = record { names = screen.names; asked = screen.asked; disciplin
 -- ---- the form begins
 
 -- only the report has a table of bounds
-abbrev pub HasTable : Shown → Option BoundsTable → Type 0
+abbrev pub HasTable : AnyForm → Option BoundsTable → Type 0
 HasTable (form.Report report) bounds = IsSome bounds
 HasTable other bounds = bounds ≡ None
 
 -- The form that the settings ask for appears, and what it adds when it begins under a discipline stands behind the text.
 pub record FormAppears (discipline : DisciplineName) (s : Figures) (asked : Settings) (old new : ScreenState) (before after : List ℕ) : Type 0 where
-  pub fresh : Shown
+  pub fresh : AnyForm
   pub is_asked : IsAskedFor asked old.names fresh
   pub is_empty : IsEmptyForm asked.width asked.picture_options fresh
-  pub form : Shown
+  pub form : AnyForm
   pub opens : FormOpens discipline s fresh form before after
   pub shown : new.shown ≡ Some form
   pub table : HasTable fresh new.bounds
@@ -57,12 +57,12 @@ ScreenBegins s old new before after = BeginsText s old.discipline old.asked old 
 -- ---- an event
 
 -- both forms are `why`
-abbrev pub AreWhy : Option Shown → Option Shown → Type 0
+abbrev pub AreWhy : Option AnyForm → Option AnyForm → Type 0
 AreWhy (Some (form.Why old)) (Some (form.Why new)) = Unit {0}
 AreWhy old new = ⊥
 
 -- the form stays as it is; of `why` nothing is said
-abbrev pub FormRests : Option Shown → Option Shown → Type 0
+abbrev pub FormRests : Option AnyForm → Option AnyForm → Type 0
 FormRests old new = (new ≡ old) ⊎ AreWhy old new
 
 -- a table of bounds is there if one was there before
@@ -77,7 +77,7 @@ pub record ScreenComes (old new : ScreenState) : Type 0 where
   pub rest : new ≡ record old { shown = new.shown; bounds = new.bounds }
 
 -- what a form does if there is one; without a form nothing changes
-abbrev pub IfShown : (Shown → Shown → List ℕ → List ℕ → Type 0) → Option Shown → Option Shown → List ℕ → List ℕ → Type 0
+abbrev pub IfShown : (AnyForm → AnyForm → List ℕ → List ℕ → Type 0) → Option AnyForm → Option AnyForm → List ℕ → List ℕ → Type 0
 IfShown Does None new before after = (new ≡ None) × (after ≡ before)
 IfShown Does (Some old) (Some new) before after = Does old new before after
 IfShown Does (Some old) None before after = ⊥
@@ -96,7 +96,7 @@ ScreenAnswers event (Err refusal) change s old new before after = (new ≡ old) 
 -- ---- the end
 
 -- the form ends, if there is one
-abbrev pub FormEndsIf : Figures → NamedTasks → Option Shown → List ℕ → List ℕ → Type 0
+abbrev pub FormEndsIf : Figures → NamedTasks → Option AnyForm → List ℕ → List ℕ → Type 0
 FormEndsIf s names None before after = after ≡ before
 FormEndsIf s names (Some shown) before after = FormEnds s names shown before after
 

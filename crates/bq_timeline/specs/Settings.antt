@@ -13,7 +13,7 @@ use Rattle.bq_drawing.specs.declared.theme.Theme.TheVariants.{Light}
 use Rattle.bq_timeline.specs.Times.{is_too_great}
 use Rattle.bq_timeline.specs.declared.form_names.FormName.{FormName}
 use Rattle.bq_timeline.specs.declared.form_names.FormName.TheVariants.{Report, Map, Timehist, Why, Csv, Json, Svg, Perfetto}
-use Rattle.bq_timeline.specs.declared.numbers.TheConstants.{GREATEST_WIDTH, LEAST_WIDTH}
+use Rattle.bq_timeline.specs.declared.map_width.TheConstants.{GREATEST_WIDTH, LEAST_WIDTH}
 use Rattle.bq_timeline.specs.declared.settings.Words.{Words}
 use Rattle.bq_timeline.specs.declared.settings.Settings.{Settings}
 use Rattle.bq_timeline.specs.declared.settings.SettingsFault.{SettingsFault}

@@ -11,8 +11,8 @@ use Rattle.bq_timeline.specs.ScreenTexts.{ScreenState, state_of}
 use Rattle.bq_timeline.specs.TraceTexts.{IsTimelineText, ScreenTakes, ScreenTakesAll, TextCloses}
 use Rattle.bq_timeline.specs.Watching.{schedule_after, bad_or_refused_after_event, bad_or_refused_after, schedule_after_event}
 use Rattle.bq_timeline.specs.declared.settings.Settings.{Settings}
-use Rattle.bq_timeline.specs.declared.showing.Outcome.{Outcome}
-use Rattle.bq_timeline.specs.declared.showing.Showing.{Showing}
+use Rattle.bq_timeline.specs.declared.whole_timeline.Outcome.{Outcome}
+use Rattle.bq_timeline.specs.declared.whole_timeline.TimelineSoFar.{TimelineSoFar}
 use Rattle.bq_timeline.specs.declared.viewer.Viewer.{Viewer}
 
 -- The schedule of a viewer went on with a trace event, and the event was counted if its line was bad or refused.
@@ -46,18 +46,18 @@ pub record WatchesAndWrites (old new : Viewer) (was now : Option (List ℕ)) (Ho
 
 -- The line that has begun is the last one. The outcome is clean if no line of the trace was bad or refused, and its last notes are those
 -- for the schedule of the whole trace. The output got the rest of the text.
-pub record Closes (showing : Showing) (begun : List ℕ) (was now : Option (List ℕ)) (outcome : Outcome) : Type 0 where
+pub record Closes (timeline : TimelineSoFar) (begun : List ℕ) (was now : Option (List ℕ)) (outcome : Outcome) : Type 0 where
   pub reported : Reported
   pub final : Progress
-  pub story : Story showing.position.progress (lines begun) reported final
-  pub clean : outcome.clean ≡ (bad_or_refused_after showing.viewer.bad_or_refused reported == 0)
+  pub story : Story timeline.position.progress (lines begun) reported final
+  pub clean : outcome.clean ≡ (bad_or_refused_after timeline.viewer.bad_or_refused reported == 0)
   pub before : List ℕ
-  pub notes : string_bytes outcome.notes ≡ before ++ last_notes (schedule_after showing.viewer.schedule reported) (bad_or_refused_after showing.viewer.bad_or_refused reported)
+  pub notes : string_bytes outcome.notes ≡ before ++ last_notes (schedule_after timeline.viewer.schedule reported) (bad_or_refused_after timeline.viewer.bad_or_refused reported)
   pub last : ScreenState
   pub taken : List ℕ
   pub text : List ℕ
-  pub takes : ScreenTakesAll showing.viewer.schedule (state_of showing.viewer.screen) reported last (string_bytes showing.viewer.screen.text) taken
-  pub closes : TextCloses (schedule_after showing.viewer.schedule reported) last taken text
+  pub takes : ScreenTakesAll timeline.viewer.schedule (state_of timeline.viewer.screen) reported last (string_bytes timeline.viewer.screen.text) taken
+  pub closes : TextCloses (schedule_after timeline.viewer.schedule reported) last taken text
   pub wrote : Appends was now text
 
 -- The reader gave these bytes and has no more. The outcome is clean if no line of theirs was bad or refused, and its last notes are those for

@@ -4,21 +4,22 @@
 //! Builds on bq_trace's sinks, on bq_schedule and its forms, and on bq_why.
 #![tactic(auto)]
 
+pub mod any_form;
 pub mod bounds_table;
 mod foreign;
 pub mod form_names;
+pub mod map_width;
 mod meant;
 mod notes;
-pub mod numbers;
 pub mod refused;
 pub mod screen;
 pub mod settings;
-pub mod showing;
-pub mod shown;
+pub mod task_list;
 pub mod tasks_by_name;
 mod times;
 pub mod viewer;
+pub mod whole_timeline;
 
 pub use refused::{RefusedWord, word_after};
 pub use settings::{Settings, SettingsFault, Words};
-pub use showing::{Outcome, show};
+pub use whole_timeline::{Outcome, show};

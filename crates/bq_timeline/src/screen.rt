@@ -6,13 +6,13 @@ ghost use Rattle.bq_timeline.specs.Beginning.{FormBegins, BeginsForm};
 ghost use Rattle.bq_timeline.specs.Notes.{ChangesOnlyNotes, absent_notes, last_notes};
 ghost use Rattle.bq_timeline.specs.FormTexts.{FormAnswers, IsEmptyForm};
 ghost use Rattle.bq_timeline.specs.ScreenTexts.{FormAppears, FormEndsIf, HasTable, IfShown, KeepsTable, ScreenAnswers, ScreenBegins, ScreenComes, ScreenEnds, StandsBehind, state_of};
-ghost use Rattle.bq_timeline.specs.Shown.{IsAskedFor};
+ghost use Rattle.bq_timeline.specs.AnyForms.{IsAskedFor};
 
+use crate::any_form::AnyForm;
 use crate::bounds_table::BoundsTable;
 use crate::foreign::foreign_text;
 use crate::notes::{note_absent, note_bad_or_refused, note_unmade, note_waiting};
 use crate::settings::Settings;
-use crate::shown::Shown;
 use crate::tasks_by_name::{add_tasks_by_name, note_unknown_names};
 use bq_lines::line_fault::{LineFault, NOT_READ_ON, meant_keyword, why_bad};
 use bq_load::{FaultInWords, LoadFault};
@@ -42,7 +42,7 @@ pub struct Screen {
     /// The discipline of the machine, once there is one.
     discipline: Option<DisciplineName>,
     /// The form, once it has begun.
-    shown: Option<Shown>,
+    shown: Option<AnyForm>,
     /// How near the bounds of the discipline are, once the form has begun, if it is the report.
     bounds: Option<BoundsTable>,
     part: Part,
@@ -106,7 +106,7 @@ impl Screen {
     }
 
     /// Begins the form of these settings.
-    #[tactic(auto, using(crate::proofs::ShownLemmas::stays_asked))]
+    #[tactic(auto, using(crate::proofs::AnyFormLemmas::stays_asked))]
     fn begin_form(
         &mut self,
         alloc: Global,
@@ -132,21 +132,21 @@ impl Screen {
         &mut self,
         alloc: Global,
         discipline: DisciplineName,
-        shown: &Shown,
+        shown: &AnyForm,
         schedule: &Schedule,
     ) -> Result<(), AllocError>
         ensures table { OnOk result (HasTable shown.now self.new.bounds) }
         ensures unchanged { self.new ≡ record self.old { bounds = self.new.bounds } }
     {
         self.bounds = match shown {
-            Shown::Report(_) => Some(BoundsTable::new(alloc, discipline, schedule.processors())?),
+            AnyForm::Report(_) => Some(BoundsTable::new(alloc, discipline, schedule.processors())?),
             _ => None,
         };
         Ok(())
     }
 
     /// The form that is asked for. Its window also has the tasks that are asked for by name.
-    fn form_of(&mut self, alloc: Global, settings: Settings) -> Result<Shown, AllocError>
+    fn form_of(&mut self, alloc: Global, settings: Settings) -> Result<AnyForm, AllocError>
         ensures form { IfOk result (IsAskedFor settings self.old.names) }
         ensures empty { IfOk result (IsEmptyForm settings.width settings.picture_options) }
         ensures tasks { OnOk result (self.new.tasks.items ≡ settings.window.tasks.items ++ tasks_for_names self.old.names settings.names.items) }
@@ -161,7 +161,7 @@ impl Screen {
         } = settings;
         add_tasks_by_name(alloc, &mut window.tasks, names.as_slice(), &self.names)?;
         self.tasks = Vec::from_slice(alloc, window.tasks.as_slice())?;
-        Ok(Shown::of(alloc, form, window, width, picture_options))
+        Ok(AnyForm::of(alloc, form, window, width, picture_options))
     }
 
     /// Learns the name of a task from a comment, if it names one.
@@ -182,7 +182,7 @@ impl Screen {
         ensures comes { OnOk result (ScreenComes (state_of self.old) (state_of self.new)) }
         ensures text { self.new.text ≡ self.old.text }
     {
-        if let Some(Shown::Why(form)) = &mut self.shown {
+        if let Some(AnyForm::Why(form)) = &mut self.shown {
             form.before_event(number, event, machine)?;
         }
         if let Some(bounds) = &mut self.bounds {

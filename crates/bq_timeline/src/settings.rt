@@ -7,9 +7,9 @@ ghost use Rattle.bq_timeline.specs.Settings.{AsksForSettings, AllOptionsApply, I
 ghost use Rattle.bq_timeline.specs.declared.settings.SettingsFault.TheVariants.{OutOfMemory};
 
 use crate::form_names::FormName;
-use crate::numbers::{GREATEST_WIDTH, LEAST_WIDTH};
+use crate::map_width::{GREATEST_WIDTH, LEAST_WIDTH};
 use crate::times::is_too_great;
-use crate::{numbers, with_forms, with_stretches};
+use crate::{map_width, task_list, with_forms, with_stretches};
 use bq_disc::limits::LAST_PROCESSOR;
 use bq_drawing::{PictureOptions, Theme, with_themes};
 use bq_report::Window;
@@ -172,7 +172,7 @@ impl Settings {
             SettingsFault::Processors,
         )?;
         if let Some(word) = &words.tasks {
-            window.tasks = numbers::tasks(alloc, word.as_str())?.ok_or(SettingsFault::Tasks)?;
+            window.tasks = task_list::tasks(alloc, word.as_str())?.ok_or(SettingsFault::Tasks)?;
         }
         let names = names_or_none(alloc, &words.tasks)?;
         let width = width_or(&words.width, COLUMNS).ok_or(SettingsFault::Width)?;
@@ -291,7 +291,7 @@ fn names_or_none(alloc: Global, word: &Option<String>) -> Result<Vec<String>, Al
     ensures { IfOk result (λ names. map string_bytes names.items ≡ names_given word.now) }
 {
     match word {
-        Some(word) => numbers::names(alloc, word.as_str()),
+        Some(word) => task_list::names(alloc, word.as_str()),
         None => Ok(Vec::new(alloc)),
     }
 }
@@ -301,7 +301,7 @@ fn width_or(word: &Option<String>, default: usize) -> Option<usize>
     ensures { result ≡ asked_or default width_in_word word.now }
 {
     match word {
-        Some(word) => numbers::width(word.as_str()),
+        Some(word) => map_width::width(word.as_str()),
         None => Some(default),
     }
 }

@@ -2,7 +2,7 @@
 use Rattle.std.proofs.Common.{◌≡◌, ◌++◌, ℕ, List, [], ap, append_assoc, arith, string_bytes, sym, ◌∙◌}
 use Rattle.std.proofs.lemmas.Result.{on_ok_weaker}
 use Rattle.bq_timeline.specs.ScreenTexts.{bounds_head}
-use Rattle.bq_timeline.proofs.ShownLemmas.{if_ok, under_head}
+use Rattle.bq_timeline.proofs.AnyFormLemmas.{if_ok, under_head}
 use Rattle.bq_timeline.proofs.bounds_table.write_table.Goals as goal
 
 pub returns : goal.returns

@@ -3,7 +3,7 @@ use Rattle.std.proofs.Common.{◌++◌, ℕ, List, String, Global, ap, refl, str
 use Rattle.bq_timeline.specs.TasksByName.{unknown_name_notes}
 use Rattle.bq_timeline.specs.FormTexts.{FormOpens}
 use Rattle.bq_timeline.specs.declared.screen.Screen.{Screen}
-use Rattle.bq_timeline.proofs.ShownLemmas.{stays_asked}
+use Rattle.bq_timeline.proofs.AnyFormLemmas.{stays_asked}
 use Rattle.bq_timeline.proofs.screen.Screen.begin_form.Goals as goal
 
 pub returns-clause-form : goal.returns-clause-form

@@ -1,6 +1,6 @@
 use Rattle.std.proofs.Common.{◌≡◌, ◌≤◌, ◌+◌, ◌-◌, ◌++◌}
 use Rattle.std.specs.List.{range_with_len}
-use Rattle.bq_timeline.proofs.numbers.push_range.Given as goal
+use Rattle.bq_timeline.proofs.task_list.push_range.Given as goal
 
 -- the tasks so far, and behind them those that are left, are all
 abbrev pub invariant-loop-next : goal.invariant-loop-next

@@ -6,11 +6,11 @@ use Rattle.bq_timeline.specs.TasksByName.{tasks_for_names}
 use Rattle.bq_timeline.specs.declared.form_names.FormName.{FormName}
 use Rattle.bq_timeline.specs.declared.form_names.FormName.TheVariants as named
 use Rattle.bq_timeline.specs.declared.settings.Settings.{Settings}
-use Rattle.bq_timeline.specs.declared.shown.Shown.{Shown}
-use Rattle.bq_timeline.specs.declared.shown.Shown.TheVariants as form
+use Rattle.bq_timeline.specs.declared.any_form.AnyForm.{AnyForm}
+use Rattle.bq_timeline.specs.declared.any_form.AnyForm.TheVariants as form
 
 -- the name of a form
-abbrev pub form_name_of : Shown → FormName
+abbrev pub form_name_of : AnyForm → FormName
 form_name_of (form.Report _) = named.Report
 form_name_of (form.Map _) = named.Map
 form_name_of (form.Timehist _) = named.Timehist
@@ -21,7 +21,7 @@ form_name_of (form.Perfetto _) = named.Perfetto
 form_name_of (form.Why _) = named.Why
 
 -- the stretch of time, processors and tasks that the form shows
-abbrev pub window_of : Shown → Window
+abbrev pub window_of : AnyForm → Window
 window_of (form.Report report) = report.window
 window_of (form.Map map) = map.window
 window_of (form.Timehist window) = window
@@ -32,7 +32,7 @@ window_of (form.Perfetto trace) = trace.window
 window_of (form.Why choices) = choices.window
 
 -- The form has this name, and shows this window.
-pub record ShowsForm (form : FormName) (window : Window) (shown : Shown) : Type 0 where
+pub record ShowsForm (form : FormName) (window : Window) (shown : AnyForm) : Type 0 where
   pub form_is : form_name_of shown ≡ form
   pub window_is : window_of shown ≡ window
 
@@ -44,15 +44,15 @@ pub record IsWindowOf (s : Settings) (named : NamedTasks) (window : Window) : Ty
   pub tasks : window.tasks.items ≡ s.window.tasks.items ++ tasks_for_names named s.names.items
 
 -- The form and its window are those that the settings ask for, if tasks have these names.
-abbrev pub IsAskedFor : Settings → NamedTasks → Shown → Type 0
+abbrev pub IsAskedFor : Settings → NamedTasks → AnyForm → Type 0
 IsAskedFor s named shown = (window : Window) × IsWindowOf s named window × ShowsForm s.form window shown
 
 -- There is a form, and it is the one that the settings ask for.
-abbrev pub ShowsAsked : Settings → NamedTasks → Option Shown → Type 0
+abbrev pub ShowsAsked : Settings → NamedTasks → Option AnyForm → Type 0
 ShowsAsked s named None = ⊥
 ShowsAsked s named (Some shown) = IsAskedFor s named shown
 
 -- The form has the same name as before, and shows the same window.
-pub record StaysShown (old new : Shown) : Type 0 where
+pub record StaysShown (old new : AnyForm) : Type 0 where
   pub form_is : form_name_of new ≡ form_name_of old
   pub window_is : window_of new ≡ window_of old

@@ -1,7 +1,7 @@
 //! All forms as one type.
 ghost use Rattle.std.specs.Prelude.{OnOk, string_bytes};
 ghost use Rattle.bq_timeline.specs.FormTexts.{FormAdmits, FormAnswers, FormEnds, FormOpens, FormAddsChange, IsEmptyForm};
-ghost use Rattle.bq_timeline.specs.Shown.{ShowsForm, StaysShown};
+ghost use Rattle.bq_timeline.specs.AnyForms.{ShowsForm, StaysShown};
 
 use crate::form_names::FormName;
 use bq_drawing::{Perfetto, PictureOptions, Svg};
@@ -15,7 +15,7 @@ use std::alloc::{AllocError, Global};
 
 /// One of the forms.
 #[derive(Drop)]
-pub enum Shown {
+pub enum AnyForm {
     Report(Report),
     Map(Map),
     Timehist(Timehist),
@@ -27,7 +27,7 @@ pub enum Shown {
     Why(WhyForm),
 }
 
-impl Shown {
+impl AnyForm {
     /// The form of this name, for what the window shows.
     pub fn of(
         alloc: Global,
@@ -35,19 +35,19 @@ impl Shown {
         window: Window,
         width: usize,
         picture_options: PictureOptions,
-    ) -> Shown
+    ) -> AnyForm
         ensures shows { ShowsForm form window result }
         ensures empty { IsEmptyForm width picture_options result }
     {
         match form {
-            FormName::Report => Shown::Report(Report::new(alloc, window)),
-            FormName::Map => Shown::Map(Map::new(alloc, window, width)),
-            FormName::Timehist => Shown::Timehist(Timehist::new(window)),
-            FormName::Csv => Shown::Csv(Csv::new(alloc, window)),
-            FormName::Json => Shown::Json(Json::new(alloc, window)),
-            FormName::Svg => Shown::Svg(Svg::new(alloc, window, picture_options)),
-            FormName::Perfetto => Shown::Perfetto(Perfetto::new(alloc, window)),
-            FormName::Why => Shown::Why(WhyForm::new(alloc, window)),
+            FormName::Report => AnyForm::Report(Report::new(alloc, window)),
+            FormName::Map => AnyForm::Map(Map::new(alloc, window, width)),
+            FormName::Timehist => AnyForm::Timehist(Timehist::new(window)),
+            FormName::Csv => AnyForm::Csv(Csv::new(alloc, window)),
+            FormName::Json => AnyForm::Json(Json::new(alloc, window)),
+            FormName::Svg => AnyForm::Svg(Svg::new(alloc, window, picture_options)),
+            FormName::Perfetto => AnyForm::Perfetto(Perfetto::new(alloc, window)),
+            FormName::Why => AnyForm::Why(WhyForm::new(alloc, window)),
         }
     }
 
@@ -63,17 +63,17 @@ impl Shown {
         ensures opens { OnOk result (FormOpens discipline schedule.now self.old self.new (string_bytes text.old) (string_bytes text.new)) }
     {
         match self {
-            Shown::Report(form) => form.begin(schedule, names, text),
-            Shown::Map(form) => form.begin(schedule, names, text),
-            Shown::Timehist(form) => form.begin(schedule, names, text),
-            Shown::Csv(form) => form.begin(schedule, names, text),
-            Shown::Json(form) => form.begin(schedule, names, text),
-            Shown::Svg(form) => {
+            AnyForm::Report(form) => form.begin(schedule, names, text),
+            AnyForm::Map(form) => form.begin(schedule, names, text),
+            AnyForm::Timehist(form) => form.begin(schedule, names, text),
+            AnyForm::Csv(form) => form.begin(schedule, names, text),
+            AnyForm::Json(form) => form.begin(schedule, names, text),
+            AnyForm::Svg(form) => {
                 form.set_discipline(discipline);
                 form.begin(schedule, names, text)
             }
-            Shown::Perfetto(form) => form.begin(schedule, names, text),
-            Shown::Why(_) => Ok(()),
+            AnyForm::Perfetto(form) => form.begin(schedule, names, text),
+            AnyForm::Why(_) => Ok(()),
         }
     }
 
@@ -82,8 +82,8 @@ impl Shown {
         ensures { OnOk result (FormAdmits task self.old self.new) }
     {
         match self {
-            Shown::Map(form) => form.admit(task),
-            Shown::Svg(form) => form.admit(task),
+            AnyForm::Map(form) => form.admit(task),
+            AnyForm::Svg(form) => form.admit(task),
             _ => Ok(()),
         }
     }
@@ -91,8 +91,8 @@ impl Shown {
     /// Notes how many wakes did nothing because their task did not wait.
     pub fn count_missed(&mut self, wakes: u64) {
         match self {
-            Shown::Report(form) => form.count_missed(wakes),
-            Shown::Json(form) => form.count_missed(wakes),
+            AnyForm::Report(form) => form.count_missed(wakes),
+            AnyForm::Json(form) => form.count_missed(wakes),
             _ => {}
         }
     }
@@ -109,14 +109,14 @@ impl Shown {
         ensures { OnOk result (FormAddsChange done.now.change.now schedule.now names.now self.old self.new (string_bytes text.old) (string_bytes text.new)) }
     {
         match self {
-            Shown::Report(form) => form.add_change(done.change, schedule, names, text),
-            Shown::Map(form) => form.add_change(done.change, schedule, names, text),
-            Shown::Timehist(form) => form.add_change(done.change, schedule, names, text),
-            Shown::Csv(form) => form.add_change(done.change, schedule, names, text),
-            Shown::Json(form) => form.add_change(done.change, schedule, names, text),
-            Shown::Svg(form) => form.add_change(done.change, schedule, names, text),
-            Shown::Perfetto(form) => form.add_change(done.change, schedule, names, text),
-            Shown::Why(form) => form.after_event(done, machine, names, text),
+            AnyForm::Report(form) => form.add_change(done.change, schedule, names, text),
+            AnyForm::Map(form) => form.add_change(done.change, schedule, names, text),
+            AnyForm::Timehist(form) => form.add_change(done.change, schedule, names, text),
+            AnyForm::Csv(form) => form.add_change(done.change, schedule, names, text),
+            AnyForm::Json(form) => form.add_change(done.change, schedule, names, text),
+            AnyForm::Svg(form) => form.add_change(done.change, schedule, names, text),
+            AnyForm::Perfetto(form) => form.add_change(done.change, schedule, names, text),
+            AnyForm::Why(form) => form.after_event(done, machine, names, text),
         }
     }
 
@@ -148,14 +148,14 @@ impl Shown {
         ensures { OnOk result (FormEnds schedule.now names.now self.old (string_bytes text.old) (string_bytes text.new)) }
     {
         match self {
-            Shown::Report(form) => form.end(schedule, names, text),
-            Shown::Map(form) => form.end(schedule, names, text),
-            Shown::Timehist(form) => form.end(schedule, names, text),
-            Shown::Csv(form) => form.end(schedule, names, text),
-            Shown::Json(form) => form.end(schedule, names, text),
-            Shown::Svg(form) => form.end(schedule, names, text),
-            Shown::Perfetto(form) => form.end(schedule, names, text),
-            Shown::Why(_) => Ok(()),
+            AnyForm::Report(form) => form.end(schedule, names, text),
+            AnyForm::Map(form) => form.end(schedule, names, text),
+            AnyForm::Timehist(form) => form.end(schedule, names, text),
+            AnyForm::Csv(form) => form.end(schedule, names, text),
+            AnyForm::Json(form) => form.end(schedule, names, text),
+            AnyForm::Svg(form) => form.end(schedule, names, text),
+            AnyForm::Perfetto(form) => form.end(schedule, names, text),
+            AnyForm::Why(_) => Ok(()),
         }
     }
 }

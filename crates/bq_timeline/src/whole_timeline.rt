@@ -46,29 +46,29 @@ pub fn show<R: Read, W: Write, E: Write>(
     ensures fault { IfErr result (λ e. IsStreamFault e (failures_of input.old) (failures_of input.new)
         (failures_of output.old) (failures_of output.new) (call_count input.old) (call_count input.new)) }
 {
-    let mut showing = Showing::new(alloc, settings);
+    let mut timeline = TimelineSoFar::new(alloc, settings);
     let mut piece = [0u8; PIECE];
     for _ in 0..READS {
         let count = input.read(&mut piece)?;
         if count == 0 {
-            return showing.finish(output);
+            return timeline.finish(output);
         }
-        showing.feed(&piece[..count], output, errors)?;
+        timeline.feed(&piece[..count], output, errors)?;
     }
     Err(StreamFault::TooLong)
 }
 
 /// A timeline of the pieces so far.
-struct Showing {
+struct TimelineSoFar {
     alloc: Global,
     position: TracePosition,
     viewer: Viewer,
 }
 
 // Written out, so that dropping it is one call.
-impl Drop for Showing {
+impl Drop for TimelineSoFar {
     fn drop(self) {
-        let Showing {
+        let TimelineSoFar {
             alloc: _,
             position: _position,
             viewer: _viewer,
@@ -76,8 +76,8 @@ impl Drop for Showing {
     }
 }
 
-impl Showing {
-    fn new(alloc: Global, settings: Settings) -> Showing
+impl TimelineSoFar {
+    fn new(alloc: Global, settings: Settings) -> TimelineSoFar
         ensures progress { result.position.progress ≡ opening_progress }
         ensures begun { result.position.begun ≡ Some [] }
         ensures schedule { result.viewer.schedule ≡ None }
@@ -85,7 +85,7 @@ impl Showing {
         ensures blank { IsBlank settings (state_of result.viewer.screen) }
         ensures text { string_bytes result.viewer.screen.text ≡ [] }
     {
-        Showing {
+        TimelineSoFar {
             alloc,
             position: TracePosition::new(alloc),
             viewer: Viewer::new(alloc, settings),

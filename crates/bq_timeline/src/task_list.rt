@@ -1,18 +1,12 @@
-//! The words that ask for tasks and for the width of a map, and what they mean.
+//! The words that ask for tasks, and what they mean.
 ghost use Rattle.std.specs.Prelude.{◌≡◌, ◌<◌, ◌≤◌, ◌+◌, ◌-◌, ◌++◌, IfOk, IfSome, MatchBool, None, OnOk, length, map, option_map, position, string_bytes};
 ghost use Rattle.std.specs.List.{range_with_len};
-ghost use Rattle.bq_timeline.specs.Settings.{AddsPart, is_name, names_among_parts, tasks_at, tasks_in_list, tasks_of_part, width_in_word};
+ghost use Rattle.bq_timeline.specs.Settings.{AddsPart, is_name, names_among_parts, tasks_at, tasks_in_list, tasks_of_part};
 ghost use Rattle.bq_words.specs.ProcessorSets.{is_dash};
 
 use bq_words::processor_sets::first_part;
-use bq_words::quantities::{decimal, task};
+use bq_words::quantities::task;
 use std::alloc::{AllocError, Global};
-
-/// The fewest columns of a map.
-pub const LEAST_WIDTH: u64 = 20;
-
-/// The most columns of a map.
-pub const GREATEST_WIDTH: u64 = 10_000;
 
 /// The tasks that a word names by number: numbers and ranges with commas between them, as `1-3,9`. Names may be among them, as in
 /// `1-3,editor`: a part that does not begin with a digit is a name. Names add no tasks here.
@@ -124,18 +118,4 @@ fn is_dash(byte: u8) -> bool
     ensures { result ≡ is_dash byte }
 {
     byte == b'-'
-}
-
-/// The columns that a word asks for: from `LEAST_WIDTH` to `GREATEST_WIDTH`.
-///
-/// `None` if the word is no number, or if the number is outside that range.
-pub fn width(word: &str) -> Option<usize>
-    ensures { result ≡ width_in_word word.now }
-{
-    let columns = decimal(word.as_bytes())?;
-    if LEAST_WIDTH <= columns && columns <= GREATEST_WIDTH {
-        Some(columns as usize)
-    } else {
-        None
-    }
 }

@@ -1,7 +1,7 @@
 use Rattle.std.proofs.Common.{◌≡◌}
 use Rattle.bq_streams.specs.Counts.{counted_inner, call_count, failures_of, HasCounted}
 use Rattle.bq_timeline.proofs.WatchLemmas.{Underway}
-use Rattle.bq_timeline.proofs.showing.show.Given as goal
+use Rattle.bq_timeline.proofs.whole_timeline.show.Given as goal
 
 -- nothing has failed, each turn was a read, and what was read is reported
 abbrev pub invariant-loop : goal.invariant-loop
@@ -10,5 +10,5 @@ invariant-loop g l = record {
   writes : failures_of l.output ≡ failures_of l.initial.output;
   calls : HasCounted l.counter (call_count l.initial.input) (call_count l.input);
   so_far : Underway l.fn.settings (g.R.Read.remaining (counted_inner l.initial.input)) (g.R.Read.remaining (counted_inner l.input))
-      (g.W.Write.contents (counted_inner l.initial.output)) (g.W.Write.contents (counted_inner l.output)) l.showing;
+      (g.W.Write.contents (counted_inner l.initial.output)) (g.W.Write.contents (counted_inner l.output)) l.timeline;
 }

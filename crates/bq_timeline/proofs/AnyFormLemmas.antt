@@ -8,12 +8,12 @@ use Rattle.bq_parts.specs.declared.event.Event.TheVariants.{Admit}
 use Rattle.bq_report.specs.Names.{NamedTasks}
 use Rattle.bq_timeline.specs.FormTexts.{FormAdmits, FormAdmitsTaskOf}
 use Rattle.bq_timeline.specs.ScreenTexts.{bounds_head, under_bounds_head}
-use Rattle.bq_timeline.specs.Shown.{IsAskedFor, StaysShown}
+use Rattle.bq_timeline.specs.AnyForms.{IsAskedFor, StaysShown}
 use Rattle.bq_timeline.specs.declared.settings.Settings.{Settings}
-use Rattle.bq_timeline.specs.declared.shown.Shown.{Shown}
+use Rattle.bq_timeline.specs.declared.any_form.AnyForm.{AnyForm}
 
 -- a form that begins is still the one that is asked for
-pub stays_asked : (s : Settings) (named : NamedTasks) (old new : Shown)
+pub stays_asked : (s : Settings) (named : NamedTasks) (old new : AnyForm)
     → IsAskedFor s named old → StaysShown old new → IsAskedFor s named new
 stays_asked s named old new asked stays = (
   asked.0,
@@ -35,12 +35,12 @@ if_ok (Ok x) now here there e = e
 if_ok (Err e) now here there h = tt
 
 -- the form is given the task of an event that admits it
-pub admits_task : (event : Event) (task : ℕ) (nice : ℤ) (mask slice : ℕ) (old new : Shown)
+pub admits_task : (event : Event) (task : ℕ) (nice : ℤ) (mask slice : ℕ) (old new : AnyForm)
     → event ≡ Admit task nice mask slice → FormAdmits task old new → FormAdmitsTaskOf event old new
 admits_task event task nice mask slice old new is h = rw is h
 
 -- the form is given no task of another event
-pub admits_none : (event : Event) (old : Shown) → ((task : ℕ) (nice : ℤ) (mask slice : ℕ) → event ≡ Admit task nice mask slice → ⊥)
+pub admits_none : (event : Event) (old : AnyForm) → ((task : ℕ) (nice : ℤ) (mask slice : ℕ) → event ≡ Admit task nice mask slice → ⊥)
     → FormAdmitsTaskOf event old old
 admits_none (Admit task nice mask slice) old other = absurd (other task nice mask slice refl)
 admits_none event old other = refl

@@ -6,7 +6,7 @@ use Rattle.std.proofs.lemmas.Iterator.Consumers.{YieldsList-turn, YieldsList-end
 use Rattle.bq_words.specs.ProcessorSets.{is_comma}
 use Rattle.bq_timeline.specs.Settings.{is_name}
 use Rattle.bq_timeline.proofs.NameLemmas.{names_all, names_off, names_on}
-use Rattle.bq_timeline.proofs.numbers.names.Goals as goal
+use Rattle.bq_timeline.proofs.task_list.names.Goals as goal
 
 pub loop-part-preserved-in_ok-push : goal.loop-part-preserved-in_ok-push
 loop-part-preserved-in_ok-push c =

@@ -1,6 +1,6 @@
 use Rattle.std.proofs.Common.{arith}
 use Rattle.bq_timeline.proofs.TaskLemmas.{range_on}
-use Rattle.bq_timeline.proofs.numbers.push_range.Goals as goal
+use Rattle.bq_timeline.proofs.task_list.push_range.Goals as goal
 
 pub loop-next-preserved : goal.loop-next-preserved
 loop-next-preserved c = record {

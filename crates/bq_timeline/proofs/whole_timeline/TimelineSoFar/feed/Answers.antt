@@ -2,7 +2,7 @@ use Rattle.std.proofs.Common.{refl, string_bytes, subst}
 use Rattle.std.specs.Io.KnownBytes.{Appends}
 use Rattle.bq_streams.specs.Counts.{counted_inner}
 use Rattle.bq_timeline.proofs.WatchLemmas.{watches_what_it_gets}
-use Rattle.bq_timeline.proofs.showing.Showing.feed.Goals as goal
+use Rattle.bq_timeline.proofs.whole_timeline.TimelineSoFar.feed.Goals as goal
 
 pub returns-clause-reported : goal.returns-clause-reported
 returns-clause-reported g c = λ begun stands.

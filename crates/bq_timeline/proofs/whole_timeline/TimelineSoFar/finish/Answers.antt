@@ -11,7 +11,7 @@ use Rattle.bq_timeline.specs.Timelines.{Watches}
 use Rattle.bq_timeline.specs.TraceTexts.{TextCloses}
 use Rattle.bq_timeline.specs.Watching.{schedule_after}
 use Rattle.bq_timeline.proofs.WatchLemmas.{watches_what_it_gets}
-use Rattle.bq_timeline.proofs.showing.Showing.finish.Goals as goal
+use Rattle.bq_timeline.proofs.whole_timeline.TimelineSoFar.finish.Goals as goal
 
 pub returns-clause-reported : goal.returns-clause-reported
 returns-clause-reported g c = λ begun stands.

@@ -1,8 +1,8 @@
 -- The form is given its task, and then the change.
 use Rattle.std.proofs.lemmas.Result.{on_ok_weaker}
-use Rattle.bq_timeline.proofs.ShownLemmas.{admits_task, admits_none}
-use Rattle.bq_timeline.proofs.shown.Shown.after_event.Goals as goal
-use Rattle.bq_timeline.proofs.shown.Shown.after_event.Goals.{in-Admit+in_ok-admit, in_default}
+use Rattle.bq_timeline.proofs.AnyFormLemmas.{admits_task, admits_none}
+use Rattle.bq_timeline.proofs.any_form.AnyForm.after_event.Goals as goal
+use Rattle.bq_timeline.proofs.any_form.AnyForm.after_event.Goals.{in-Admit+in_ok-admit, in_default}
 
 pub returns : goal.returns
 returns c =

@@ -3,7 +3,7 @@ use Rattle.std.specs.Io.KnownBytes.{Consumes, IsAtEnd}
 use Rattle.std.proofs.lemmas.Result.{IfOk-weaker}
 use Rattle.bq_streams.specs.Counts.{counted_inner}
 use Rattle.bq_timeline.proofs.WatchLemmas.{Underway-none, Underway-more, Underway-ends}
-use Rattle.bq_timeline.proofs.showing.show.Goals as goal
+use Rattle.bq_timeline.proofs.whole_timeline.show.Goals as goal
 
 pub returns-then-count-eq0-clause-timeline : goal.returns-then-count-eq0-clause-timeline
 returns-then-count-eq0-clause-timeline g c =
@@ -34,6 +34,6 @@ loop-init g c = record {
   writes = refl;
   calls = omega arith;
   so_far =
-      Underway-none _ _ _ _ c.new-showing.ensures.progress c.new-showing.ensures.begun c.new-showing.ensures.schedule
-      c.new-showing.ensures.bad_or_refused c.new-showing.ensures.blank c.new-showing.ensures.text;
+      Underway-none _ _ _ _ c.new-timeline.ensures.progress c.new-timeline.ensures.begun c.new-timeline.ensures.schedule
+      c.new-timeline.ensures.bad_or_refused c.new-timeline.ensures.blank c.new-timeline.ensures.text;
 }

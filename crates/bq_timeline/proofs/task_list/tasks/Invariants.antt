@@ -3,7 +3,7 @@ use Rattle.std.specs.Prelude.{option_map}
 use Rattle.std.specs.List.{slice_split}
 use Rattle.bq_words.specs.ProcessorSets.{is_comma}
 use Rattle.bq_timeline.specs.Settings.{tasks_in_parts, tasks_in_list}
-use Rattle.bq_timeline.proofs.numbers.tasks.Given as goal
+use Rattle.bq_timeline.proofs.task_list.tasks.Given as goal
 
 -- the tasks so far, and behind them those that the rest names, are those of the word
 abbrev pub invariant-loop-part : goal.invariant-loop-part
