@@ -28,7 +28,7 @@ pub enum AnyForm {
 }
 
 impl AnyForm {
-    /// The form of this name, for what the window shows.
+    /// Returns the form of this name, for what the window shows.
     pub fn of(
         alloc: Global,
         form: FormName,

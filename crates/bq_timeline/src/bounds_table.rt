@@ -29,7 +29,7 @@ pub struct BoundsTable {
 }
 
 impl BoundsTable {
-    /// A table for this many processors, before the first event.
+    /// Returns a table for this many processors, before the first event.
     pub fn new(
         alloc: Global,
         discipline: DisciplineName,
@@ -153,7 +153,7 @@ fn write_table(lines: &str, text: &mut String) -> Result<(), AllocError>
     text.push_str(lines)
 }
 
-/// What is known of a processor's tasks right after a charge, by its mark and by the running and the first waiting task. `None` if no
+/// Returns what is known of a processor's tasks right after a charge, by its mark and by the running and the first waiting task. `None` if no
 /// task runs.
 fn glance_at<Q: RunQueue>(cpu: &Cpu<Q>) -> Option<Glance> {
     let running = how_it_stands(cpu)?;

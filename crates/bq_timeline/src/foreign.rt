@@ -1,6 +1,6 @@
 //! Tells by its first line what a text that is no trace is: a workload or a policy.
 
-/// What a text is, by its first line, and what to do with it. `None` unless it is a workload or a policy.
+/// Returns what a text is, by its first line, and what to do with it. `None` unless it is a workload or a policy.
 pub(crate) fn foreign_text(line: &[u8]) -> Option<&'static str> {
     if line.starts_with(b"[machine]") || line.starts_with(b"[[task]]") {
         Some("this is a workload, not a trace; bqsim simulate runs it")

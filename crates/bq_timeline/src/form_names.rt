@@ -32,7 +32,7 @@ macro_rules! with_stretches {
 }
 
 impl FormName {
-    /// The form of this name, if there is one.
+    /// Returns the form of this name, if there is one.
     pub fn of_word(word: &str) -> Option<FormName>
         ensures { result ≡ form_named word.now }
     {
@@ -49,14 +49,14 @@ impl FormName {
         }
     }
 
-    /// Whether the form shows a stretch of time. A report and JSON have the figures of the whole trace.
+    /// Tells whether the form shows a stretch of time. A report and JSON have the figures of the whole trace.
     pub fn has_stretch(self) -> bool
         ensures { result ≡ has_stretch self }
     {
         !matches!(self, FormName::Report | FormName::Json)
     }
 
-    /// Whether `--width` sets how wide the form is.
+    /// Tells whether `--width` sets how wide the form is.
     pub fn has_width(self) -> bool
         ensures { result ≡ has_width self }
     {

@@ -10,7 +10,7 @@ pub const LEAST_WIDTH: u64 = 20;
 /// The most columns of a map.
 pub const GREATEST_WIDTH: u64 = 10_000;
 
-/// The columns that a word asks for: from `LEAST_WIDTH` to `GREATEST_WIDTH`.
+/// Returns the columns that a word asks for: from `LEAST_WIDTH` to `GREATEST_WIDTH`.
 ///
 /// `None` if the word is no number, or if the number is outside that range.
 pub fn width(word: &str) -> Option<usize>

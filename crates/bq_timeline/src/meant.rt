@@ -10,7 +10,7 @@ use std::alloc::{AllocError, Global};
 /// The longest word, in bytes, for which a near name is looked for.
 pub const LONGEST: usize = 40;
 
-/// The name of a task that is nearest to a name that no task has, if one is near.
+/// Returns the name of a task that is nearest to a name that no task has, if one is near.
 pub(crate) fn name_meant<'a>(
     alloc: Global,
     name: &str,
@@ -27,7 +27,7 @@ pub(crate) fn name_meant<'a>(
     }
 }
 
-/// The task whose name is nearest, if one is near: the first of these.
+/// Returns the task whose name is nearest, if one is near: the first of these.
 #[tactic(auto, using(crate::proofs::MeantLemmas::edits_none, crate::proofs::MeantLemmas::edits_more, crate::proofs::MeantLemmas::nearest_none, crate::proofs::MeantLemmas::nearest_on, crate::proofs::MeantLemmas::nearest_off))]
 fn nearest_task(alloc: Global, name: &str, names: &Names) -> Result<Option<u16>, AllocError>
     ensures { IfOk result (λ task. task ≡ nearest_task names.now name.now) }
@@ -42,7 +42,7 @@ fn nearest_task(alloc: Global, name: &str, names: &Names) -> Result<Option<u16>,
     Ok(nearest)
 }
 
-/// Whether there is a name that is nearer than each before it.
+/// Tells whether there is a name that is nearer than each before it.
 fn is_nearer(
     alloc: Global,
     near: &mut Near,

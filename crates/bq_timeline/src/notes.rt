@@ -36,7 +36,7 @@ fn note_past(notes: &mut String, schedule: &Schedule, from: u64) -> Result<(), A
     notes.push_str("--from: the trace ends before that time\n")
 }
 
-/// Whether the clock of a processor reaches a moment.
+/// Tells whether the clock of a processor reaches a moment.
 #[tactic(auto, using(crate::proofs::NoteLemmas::reaches_none, crate::proofs::NoteLemmas::reaches_more))]
 fn reaches(schedule: &Schedule, from: u64) -> bool
     ensures { result ≡ reaches schedule.now from PROCESSORS }
@@ -48,7 +48,7 @@ fn reaches(schedule: &Schedule, from: u64) -> bool
     is_reached
 }
 
-/// Notes if tasks are asked for by number and none of those that are asked for exists.
+/// Adds a note if tasks are asked for by number and none of them exists.
 fn note_tasks(notes: &mut String, schedule: &Schedule, tasks: &[u16]) -> Result<(), AllocError>
     ensures { OnOk result (string_bytes notes.new ≡ string_bytes notes.old ++ tasks_note schedule.now tasks.now) }
 {
@@ -58,35 +58,35 @@ fn note_tasks(notes: &mut String, schedule: &Schedule, tasks: &[u16]) -> Result<
     notes.push_str("--tasks: there is no task with such a number\n")
 }
 
-/// Whether tasks are asked for by number, and none of those that are asked for was admitted.
+/// Tells whether tasks are asked for by number and none of them was admitted.
 fn lacks_tasks(schedule: &Schedule, tasks: &[u16]) -> bool
     ensures { result ≡ lacks_tasks schedule.now tasks.now }
 {
     has_number(tasks) && !admits_any(schedule, tasks)
 }
 
-/// Whether a task is asked for by number. Names have notes of their own.
+/// Tells whether a task is asked for by number. Names have notes of their own.
 fn has_number(tasks: &[u16]) -> bool
     ensures { result ≡ list_any is_number tasks.now }
 {
     tasks.iter().any(|id| *id < NO_TASK)
 }
 
-/// Whether one of some tasks was ever admitted.
+/// Tells whether one of some tasks was ever admitted.
 fn admits_any(schedule: &Schedule, tasks: &[u16]) -> bool
     ensures { result ≡ list_any (λ id. (task_in_figures schedule.now id).is_admitted) tasks.now }
 {
     tasks.iter().any(|id| is_admitted(schedule, *id))
 }
 
-/// Whether a task was ever admitted.
+/// Tells whether a task was ever admitted.
 fn is_admitted(schedule: &Schedule, id: u16) -> bool
     ensures { result ≡ (task_in_figures schedule.now id).is_admitted }
 {
     schedule.task(id).is_admitted
 }
 
-/// Notes if none of the processors that the bits name is one of this many.
+/// Adds a note if none of the processors that the bits name is one of this many.
 fn note_processors(notes: &mut String, count: usize, processors: u64) -> Result<(), AllocError>
     ensures { OnOk result (string_bytes notes.new ≡ string_bytes notes.old ++ processors_note count processors) }
 {
@@ -99,14 +99,14 @@ fn note_processors(notes: &mut String, count: usize, processors: u64) -> Result<
     )
 }
 
-/// Whether none of the processors that the bits name is one of this many.
+/// Tells whether none of the processors that the bits name is one of this many.
 fn lacks_processors(count: usize, processors: u64) -> bool
     ensures { result ≡ lacks_processors count processors }
 {
     count < usize::from(PROCESSORS) && processors % (1u64 << count) == 0
 }
 
-/// Notes that no line made a machine, if no line was bad or refused.
+/// Adds a note that no line made a machine, if no line was bad or refused.
 pub(crate) fn note_unmade(notes: &mut String, bad_or_refused: u64) -> Result<(), AllocError>
     ensures { OnOk result (string_bytes notes.new ≡ string_bytes notes.old ++ unmade_note bad_or_refused) }
 {
@@ -142,7 +142,7 @@ fn note_task(notes: &mut String, task: u16, processor: Option<u8>) -> Result<(),
     }
 }
 
-/// Notes how many lines were bad or refused, if any were.
+/// Adds a note on how many lines were bad or refused, if any were.
 pub(crate) fn note_bad_or_refused(notes: &mut String, bad_or_refused: u64) -> Result<(), AllocError>
     ensures { OnOk result (string_bytes notes.new ≡ string_bytes notes.old ++ bad_or_refused_note bad_or_refused) }
 {

@@ -18,7 +18,7 @@ pub struct RefusedWord<'a> {
 }
 
 impl SettingsFault {
-    /// The word that the fault refuses, and its option. `None` if the fault is not that of one word.
+    /// Returns the word that the fault refuses, and its option. `None` if the fault is not that of one word.
     pub fn refused<'a>(self, words: &'a Words) -> Option<RefusedWord<'a>>
         ensures word { IfSome result (λ r. optional_word_text (settings_word_refused words.now self) ≡ Some r.word.now) }
         ensures none { IfNone result (settings_word_refused words.now self ≡ None) }
@@ -45,7 +45,7 @@ impl SettingsFault {
     }
 }
 
-/// The word after an option, if there is one, as a word that is refused.
+/// Returns the word after an option, if there is one, as a word that is refused.
 pub fn word_after<'a>(
     option: &'static str,
     word: &'a Option<String>,

@@ -55,7 +55,7 @@ pub struct Screen {
 }
 
 impl Screen {
-    /// A screen on which nothing is written yet.
+    /// Returns a screen on which nothing is written yet.
     pub fn new(alloc: Global, settings: Settings) -> Screen
         ensures asked { result.asked ≡ Some settings }
         ensures names { (task : ℕ) → name_of result.names task ≡ None }
@@ -145,7 +145,7 @@ impl Screen {
         Ok(())
     }
 
-    /// The form that is asked for. Its window also has the tasks that are asked for by name.
+    /// Returns the form that is asked for. Its window also has the tasks that are asked for by name.
     fn form_of(&mut self, alloc: Global, settings: Settings) -> Result<AnyForm, AllocError>
         ensures form { IfOk result (IsAskedFor settings self.old.names) }
         ensures empty { IfOk result (IsEmptyForm settings.width settings.picture_options) }
@@ -310,7 +310,7 @@ impl Screen {
         write!(self.notes, "line {number}: show {processor}: {because}\n")
     }
 
-    /// A line is bad. If it should have made the machine, the rest of the trace is not read.
+    /// Notes why a line is bad. If the line should have made the machine, the note says that the rest of the trace is not read.
     pub fn note_bad_line(
         &mut self,
         alloc: Global,
@@ -347,7 +347,7 @@ impl Screen {
         }
     }
 
-    /// Ends the form and adds the last notes: the trace is over. `bad_or_refused` is how many lines were bad or refused.
+    /// Ends the form, and adds the last notes. `bad_or_refused` is how many lines of the trace were bad or refused.
     pub fn end(&mut self, schedule: &Schedule, bad_or_refused: u64) -> Result<(), AllocError>
         ensures notes { OnOk result (string_bytes self.new.notes ≡ (string_bytes self.old.notes ++ absent_notes (Some schedule.now) self.old.tasks.items self.old.part)
             ++ last_notes (Some schedule.now) bad_or_refused) }
@@ -382,7 +382,7 @@ impl Screen {
         }
     }
 
-    /// Adds the last notes: the trace is over and made no machine. `bad_or_refused` is how many lines were bad or refused.
+    /// Adds the last notes on a trace that made no machine. `bad_or_refused` is how many of its lines were bad or refused.
     pub fn end_unmade(&mut self, bad_or_refused: u64) -> Result<(), AllocError>
         ensures notes { OnOk result (string_bytes self.new.notes ≡ string_bytes self.old.notes ++ last_notes None bad_or_refused) }
         ensures unchanged { ChangesOnlyNotes self.old self.new }

@@ -152,7 +152,7 @@ macro_rules! with_columns {
 }
 
 impl Settings {
-    /// What the words ask for: all of a trace, in a report, unless they say otherwise.
+    /// Returns what the words ask for: all of a trace, in a report, unless they say otherwise.
     ///
     /// A fault other than `OutOfMemory` names a word that is not of its kind (a form, a time, processors, tasks, a width or a theme), or says
     /// that the first moment is after the last, or names an option that does not apply to the form.
@@ -222,7 +222,7 @@ fn applies_or_absent(applies: bool, word: &Option<String>) -> bool
     }
 }
 
-/// The form that a word names, or the default if there is no word. `None` if no form has this name.
+/// Returns the form that a word names, or the default if there is no word. `None` if no form has this name.
 fn form_or(word: &Option<String>, default: FormName) -> Option<FormName>
     ensures { result ≡ asked_or default form_named word.now }
 {
@@ -232,7 +232,7 @@ fn form_or(word: &Option<String>, default: FormName) -> Option<FormName>
     }
 }
 
-/// The first moment, 0 if none is named.
+/// Returns the first moment, 0 if none is named.
 fn first_moment(words: &Words) -> Result<u64, SettingsFault>
     ensures asked { IfOk result (λ from. from_asked words.now ≡ Some from) }
     ensures refused { IfErr result (IsNoSettings words.now) }
@@ -244,7 +244,7 @@ fn first_moment(words: &Words) -> Result<u64, SettingsFault>
     }
 }
 
-/// The last moment, no end if none is named.
+/// Returns the last moment, no end if none is named.
 fn last_moment(words: &Words) -> Result<u64, SettingsFault>
     ensures asked { IfOk result (λ to. to_asked words.now ≡ Some to) }
     ensures refused { IfErr result (IsNoSettings words.now) }
@@ -256,7 +256,7 @@ fn last_moment(words: &Words) -> Result<u64, SettingsFault>
     }
 }
 
-/// Whether there is a word, and it is a time that is too great.
+/// Tells whether there is a word, and it is a time that is too great.
 fn is_great(word: &Option<String>) -> bool
     ensures { result ≡ is_great word.now }
 {
@@ -266,7 +266,7 @@ fn is_great(word: &Option<String>) -> bool
     }
 }
 
-/// The nanoseconds that a word writes, or the default if there is no word. `None` if the word is no time.
+/// Returns the nanoseconds that a word writes, or the default if there is no word. `None` if the word is no time.
 fn time_or(word: &Option<String>, default: u64) -> Option<u64>
     ensures { result ≡ asked_or default duration_of word.now }
 {
@@ -276,7 +276,7 @@ fn time_or(word: &Option<String>, default: u64) -> Option<u64>
     }
 }
 
-/// The processors that a word names, as bits, or the default if there is no word. `None` if the word names something else.
+/// Returns the processors that a word names, as bits, or the default if there is no word. `None` if the word names something else.
 fn processors_or(word: &Option<String>, default: u64) -> Option<u64>
     ensures { result ≡ asked_or default processors_of word.now }
 {
@@ -286,7 +286,7 @@ fn processors_or(word: &Option<String>, default: u64) -> Option<u64>
     }
 }
 
-/// The names of tasks in a word. Empty if there is no word.
+/// Returns the names of tasks in a word. Empty if there is no word.
 fn names_or_none(alloc: Global, word: &Option<String>) -> Result<Vec<String>, AllocError>
     ensures { IfOk result (λ names. map string_bytes names.items ≡ names_given word.now) }
 {
@@ -296,7 +296,7 @@ fn names_or_none(alloc: Global, word: &Option<String>) -> Result<Vec<String>, Al
     }
 }
 
-/// The columns that a word asks for, or the default if there is no word. `None` if the word is no width.
+/// Returns the columns that a word asks for, or the default if there is no word. `None` if the word is no width.
 fn width_or(word: &Option<String>, default: usize) -> Option<usize>
     ensures { result ≡ asked_or default width_in_word word.now }
 {
@@ -306,7 +306,7 @@ fn width_or(word: &Option<String>, default: usize) -> Option<usize>
     }
 }
 
-/// The theme that a word names, or the default if there is no word. `None` if no theme has this name.
+/// Returns the theme that a word names, or the default if there is no word. `None` if no theme has this name.
 fn theme_or(word: &Option<String>, default: Theme) -> Option<Theme>
     ensures { result ≡ asked_or default theme_of word.now }
 {
@@ -316,7 +316,7 @@ fn theme_or(word: &Option<String>, default: Theme) -> Option<Theme>
     }
 }
 
-/// A copy of a word, if there is one.
+/// Returns a copy of a word, if there is one.
 fn copied(alloc: Global, word: &Option<String>) -> Result<Option<String>, AllocError>
     ensures { IfOk result (λ copy. optional_word_text copy ≡ optional_word_text word.now) }
 {

@@ -8,7 +8,7 @@ use bq_words::processor_sets::first_part;
 use bq_words::quantities::task;
 use std::alloc::{AllocError, Global};
 
-/// The tasks that a word names by number: numbers and ranges with commas between them, as `1-3,9`. Names may be among them, as in
+/// Returns the tasks that a word names by number: numbers and ranges with commas between them, as `1-3,9`. Names may be among them, as in
 /// `1-3,editor`: a part that does not begin with a digit is a name. Names add no tasks here.
 ///
 /// `None` if a part between commas is something else, or if a range runs backwards.
@@ -30,7 +30,7 @@ pub fn tasks(alloc: Global, word: &str) -> Result<Option<Vec<u16>>, AllocError>
     Ok(Some(tasks))
 }
 
-/// The names of tasks in a word: the nonempty parts between commas that do not begin with a digit.
+/// Returns the names of tasks in a word: the nonempty parts between commas that do not begin with a digit.
 pub fn names(alloc: Global, word: &str) -> Result<Vec<String>, AllocError>
     ensures { IfOk result (λ names. map string_bytes names.items ≡ names_among_parts word.now) }
 {
@@ -43,7 +43,7 @@ pub fn names(alloc: Global, word: &str) -> Result<Vec<String>, AllocError>
     Ok(names)
 }
 
-/// Whether a part is the name of a task.
+/// Tells whether a part is the name of a task.
 fn is_name(part: &[u8]) -> bool
     ensures { result ≡ is_name part.now }
 {
@@ -85,7 +85,7 @@ fn push_range(tasks: &mut Vec<u16>, first: u16, last: u16) -> Result<(), AllocEr
     Ok(())
 }
 
-/// The first and the last task of a range, in order. A number is a range of one task. `None` if the part is neither, or runs backwards.
+/// Returns the first and the last task of a range, in order. A number is a range of one task. `None` if the part is neither, or runs backwards.
 fn ends(part: &[u8]) -> Option<(u16, u16)>
     ensures tasks { option_map (λ e. range_with_len e.0 (e.1 + 1 - e.0)) result ≡ tasks_at part.now (position is_dash part.now) }
     ensures order { IfSome result (λ e. e.0 ≤ e.1) }
@@ -106,7 +106,7 @@ fn ends(part: &[u8]) -> Option<(u16, u16)>
     }
 }
 
-/// Where a range has its dash, if it has one.
+/// Returns where a range has its dash, if it has one.
 fn dash(part: &[u8]) -> Option<usize>
     ensures value { result ≡ position is_dash part.now }
     ensures within { IfSome result (λ dash. dash < length part.now) }
@@ -114,6 +114,7 @@ fn dash(part: &[u8]) -> Option<usize>
     part.iter().position(|byte| is_dash(*byte))
 }
 
+/// Tells whether a byte is a dash.
 fn is_dash(byte: u8) -> bool
     ensures { result ≡ is_dash byte }
 {

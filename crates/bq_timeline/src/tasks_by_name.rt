@@ -103,7 +103,7 @@ fn note_near(alloc: Global, notes: &mut String, name: &str, near: &str) -> Resul
 /// How many characters of a name a message quotes.
 pub const QUOTED: usize = 40;
 
-/// A name as a message quotes it: its first 40 characters, and `?` for each control character.
+/// Returns a name as a message quotes it: its first 40 characters, and `?` for each control character.
 fn quoted(alloc: Global, name: &str) -> Result<String, AllocError>
     ensures { IfOk result (λ text. string_bytes text ≡ quoted_name name.now) }
 {
@@ -114,7 +114,7 @@ fn quoted(alloc: Global, name: &str) -> Result<String, AllocError>
     Ok(text)
 }
 
-/// The letter as a message shows it: `?` for a control character.
+/// Returns the letter as a message shows it: `?` for a control character.
 pub fn shown_letter(letter: char) -> char
     ensures { result ≡ shown_letter letter }
 {
@@ -124,7 +124,7 @@ pub fn shown_letter(letter: char) -> char
     }
 }
 
-/// The tasks that have the name, in order of their numbers.
+/// Returns the tasks that have the name, in order of their numbers.
 #[tactic(auto, using(crate::proofs::TasksByNameLemmas::with_name_none, crate::proofs::TasksByNameLemmas::with_name_on, crate::proofs::TasksByNameLemmas::with_name_off))]
 fn tasks_with_name(alloc: Global, name: &str, names: &Names) -> Result<Vec<u16>, AllocError>
     ensures { IfOk result (λ tasks. tasks.items ≡ tasks_with_name names.now name.now) }
@@ -138,7 +138,7 @@ fn tasks_with_name(alloc: Global, name: &str, names: &Names) -> Result<Vec<u16>,
     Ok(tasks)
 }
 
-/// Whether there is another name, and it equals this one.
+/// Tells whether there is another name, and it equals this one.
 fn is_named(name: &str, other: Option<&str>) -> bool
     ensures { result ≡ is_named name.now (option_map (λ o. o.now) other.entry) }
 {

@@ -28,7 +28,7 @@ pub struct Viewer {
 }
 
 impl Viewer {
-    /// A viewer to which no line has come.
+    /// Returns a viewer to which no line has come.
     pub fn new(alloc: Global, settings: Settings) -> Viewer
         ensures schedule { result.schedule ≡ None }
         ensures bad_or_refused { result.bad_or_refused ≡ 0 }
@@ -81,7 +81,7 @@ impl Viewer {
         Ok(())
     }
 
-    /// An event was done, or refused.
+    /// Adds an event and its answer to the schedule, and shows them. Counts the event if it was refused.
     ///
     /// A change is large and is built on the stack here, so this is kept out of the path of all else that comes.
     #[inline(never)]
@@ -105,7 +105,7 @@ impl Viewer {
             .after_event(number, event, answer, machine, &change, schedule)
     }
 
-    /// The trace is over.
+    /// Ends the trace: begins the form if there is a machine and it has not begun, ends it, and adds the last notes.
     pub fn end(&mut self) -> Result<(), AllocError>
         ensures schedule { self.new.schedule ≡ self.old.schedule }
         ensures bad_or_refused { self.new.bad_or_refused ≡ self.old.bad_or_refused }
@@ -118,7 +118,7 @@ impl Viewer {
         Ok(())
     }
 
-    /// The trace is over, and its form has begun if there is a machine.
+    /// Ends the form, which has begun if there is a machine, and adds the last notes.
     fn close(&mut self) -> Result<(), AllocError>
         ensures schedule { self.new.schedule ≡ self.old.schedule }
         ensures bad_or_refused { self.new.bad_or_refused ≡ self.old.bad_or_refused }

@@ -77,6 +77,7 @@ impl Drop for TimelineSoFar {
 }
 
 impl TimelineSoFar {
+    /// Returns a timeline of no piece yet.
     fn new(alloc: Global, settings: Settings) -> TimelineSoFar
         ensures progress { result.position.progress ≡ opening_progress }
         ensures begun { result.position.begun ≡ Some [] }
@@ -92,7 +93,7 @@ impl TimelineSoFar {
         }
     }
 
-    /// Takes a piece, and writes what is ready, notes first.
+    /// Reads a piece of the trace, and writes what is ready, notes first.
     fn feed<W: Write, E: Write>(
         &mut self,
         piece: &[u8],
@@ -115,7 +116,7 @@ impl TimelineSoFar {
         Ok(())
     }
 
-    /// The trace is over: writes what is left, and answers the last notes.
+    /// Writes what is left once the trace is over, and returns the last notes.
     fn finish<W: Write>(&mut self, output: &mut Counted<W>) -> Result<Outcome, StreamFault>
         ensures reported { IfOk result (λ outcome. ForBegunLine self.old.position (λ begun.
             Closes self.old begun (W.contents (counted_inner output.old)) (W.contents (counted_inner output.new)) outcome)) }
