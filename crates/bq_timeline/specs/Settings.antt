@@ -167,7 +167,7 @@ pub record AsksForSettings (w : Words) (s : Settings) : Type 0 where
   pub width : width_asked w ≡ Some s.width
   pub theme : theme_asked w ≡ Some s.picture_options.theme
   pub title : optional_word_text s.picture_options.title ≡ optional_word_text w.title
-  pub apply : AllOptionsApply s.form w
+  pub all_apply : AllOptionsApply s.form w
 
 -- both moments are named, and the last is before the first
 abbrev pub RunBackwards : Words → Type 0

@@ -79,8 +79,8 @@ impl Screen {
         }
     }
 
-    /// Notes that the machine is made, under this discipline.
-    pub fn opened(&mut self, discipline: DisciplineName)
+    /// Sets the discipline of the machine that was made.
+    pub fn set_discipline(&mut self, discipline: DisciplineName)
         ensures { self.new ≡ record self.old { discipline = Some discipline } }
     {
         self.discipline = Some(discipline);
@@ -165,7 +165,7 @@ impl Screen {
     }
 
     /// Learns the name of a task from a comment, if it names one.
-    pub(crate) fn comment(&mut self, line: &[u8]) -> Result<(), AllocError>
+    pub(crate) fn learn_name(&mut self, line: &[u8]) -> Result<(), AllocError>
         ensures learned { OnOk result (Learns line.now self.old.names self.new.names) }
         ensures unchanged { self.new ≡ record self.old { names = self.new.names } }
     {
@@ -216,7 +216,7 @@ impl Screen {
                 };
                 self.show(&done, machine, schedule)
             }
-            Err(refusal) => self.refused(number, event, *refusal),
+            Err(refusal) => self.note_refused(number, event, *refusal),
         }
     }
 
@@ -255,7 +255,12 @@ impl Screen {
     }
 
     /// Notes why an event was refused.
-    fn refused(&mut self, number: u64, event: &Event, refusal: Refusal) -> Result<(), AllocError>
+    fn note_refused(
+        &mut self,
+        number: u64,
+        event: &Event,
+        refusal: Refusal,
+    ) -> Result<(), AllocError>
         ensures { ChangesOnlyNotes self.old self.new }
     {
         let refused = RefusedEvent { event, refusal };

@@ -148,11 +148,11 @@ impl Sink for Viewer {
         match event {
             TraceEvent::Opened { discipline, size } => {
                 let schedule = Schedule::new(self.alloc, size.processors())?;
-                self.screen.opened(*discipline);
+                self.screen.set_discipline(*discipline);
                 self.schedule = Some(schedule);
                 Ok(())
             }
-            TraceEvent::Skipped { line } => self.screen.comment(line),
+            TraceEvent::Skipped { line } => self.screen.learn_name(line),
             TraceEvent::Comes { event, machine } => {
                 self.begin()?;
                 self.screen.before_event(number, event, machine)
