@@ -1,7 +1,9 @@
 pub mod Asking
+pub mod Cells
 pub mod Differences
 pub mod Experiments
 pub mod Faults
+pub mod Labels
 pub mod Lines
 pub mod Sides
 pub mod Gathering

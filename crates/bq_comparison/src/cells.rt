@@ -1,11 +1,15 @@
 //! Means, deviations and differences as text.
+ghost use Rattle.std.specs.Prelude.{◌≡◌, IfOk, option_and_then, option_map, string_bytes};
+ghost use Rattle.bq_comparison.specs.Cells.{cell_text, decimal_text, difference_text};
 
 use crate::difference::Difference;
 use crate::{FigureRow, PairedRow};
 use std::alloc::{AllocError, Global};
 
 /// Thousandths, with three decimals.
-pub(crate) fn decimal(alloc: Global, thousandths: u128) -> Result<String, AllocError> {
+pub(crate) fn decimal(alloc: Global, thousandths: u128) -> Result<String, AllocError>
+    ensures { IfOk result (λ text. string_bytes text ≡ decimal_text thousandths) }
+{
     let whole = thousandths / 1000;
     let part = thousandths % 1000;
     format!(in alloc; "{whole}.{part:03}")
@@ -16,7 +20,9 @@ pub(crate) fn cell(
     alloc: Global,
     thousandths: Option<u128>,
     otherwise: &str,
-) -> Result<String, AllocError> {
+) -> Result<String, AllocError>
+    ensures { IfOk result (λ text. string_bytes text ≡ cell_text thousandths otherwise.now) }
+{
     match thousandths {
         Some(thousandths) => decimal(alloc, thousandths),
         None => String::from_str(alloc, otherwise),
@@ -28,7 +34,9 @@ pub(crate) fn signed(
     alloc: Global,
     difference: Option<Difference>,
     otherwise: &str,
-) -> Result<String, AllocError> {
+) -> Result<String, AllocError>
+    ensures { IfOk result (λ text. string_bytes text ≡ difference_text difference otherwise.now) }
+{
     let (sign, size) = match difference {
         Some(Difference::More(size)) => ("+", size),
         Some(Difference::Less(size)) => ("-", size),
@@ -39,33 +47,45 @@ pub(crate) fn signed(
 }
 
 /// How many runs have the value of a row, if there is a row.
-pub(crate) fn runs_of(row: Option<FigureRow>) -> Option<u128> {
+pub(crate) fn runs_of(row: Option<FigureRow>) -> Option<u128>
+    ensures { result ≡ option_map (λ r. r.runs) row }
+{
     let row = row?;
     Some(row.runs as u128)
 }
 
 /// The mean of a row, if there is a row and it has one.
-pub(crate) fn mean_of(row: Option<FigureRow>) -> Option<u128> {
+pub(crate) fn mean_of(row: Option<FigureRow>) -> Option<u128>
+    ensures { result ≡ option_and_then (λ r. r.mean) row }
+{
     row?.mean
 }
 
 /// The deviation of a row, if there is a row and it has one.
-pub(crate) fn deviation_of(row: Option<FigureRow>) -> Option<u128> {
+pub(crate) fn deviation_of(row: Option<FigureRow>) -> Option<u128>
+    ensures { result ≡ option_and_then (λ r. r.deviation) row }
+{
     row?.deviation
 }
 
 /// With how many seeds both sides have the value of a row, if there is a row.
-pub(crate) fn difference_runs_of(row: Option<PairedRow>) -> Option<u128> {
+pub(crate) fn difference_runs_of(row: Option<PairedRow>) -> Option<u128>
+    ensures { result ≡ option_map (λ r. r.runs) row }
+{
     let row = row?;
     Some(row.runs as u128)
 }
 
 /// The difference of a row, if there is a row and it has one.
-pub(crate) fn difference_of(row: Option<PairedRow>) -> Option<Difference> {
+pub(crate) fn difference_of(row: Option<PairedRow>) -> Option<Difference>
+    ensures { result ≡ option_and_then (λ r. r.difference) row }
+{
     row?.difference
 }
 
 /// The deviation of the differences of a row, if there is a row and it has one.
-pub(crate) fn difference_deviation_of(row: Option<PairedRow>) -> Option<u128> {
+pub(crate) fn difference_deviation_of(row: Option<PairedRow>) -> Option<u128>
+    ensures { result ≡ option_and_then (λ r. r.deviation) row }
+{
     row?.deviation
 }

@@ -1,10 +1,14 @@
 //! The words for figures.
+ghost use Rattle.std.specs.Prelude.{◌≡◌, IfOk, string_bytes};
+ghost use Rattle.bq_comparison.specs.Labels.{is_time, name_of_figure, subject_text, unit_of_figure};
 
 use crate::{Figure, HookFigure, LatencyFigure, ProcessorFigure, TaskFigure};
 use std::alloc::{AllocError, Global};
 
 /// What a figure is of: `task 3`, `cpu 0` or `cpu 0 place`.
-pub(crate) fn subject(alloc: Global, figure: Figure) -> Result<String, AllocError> {
+pub(crate) fn subject(alloc: Global, figure: Figure) -> Result<String, AllocError>
+    ensures { IfOk result (λ text. string_bytes text ≡ subject_text figure) }
+{
     match figure {
         Figure::Task(task, _) | Figure::Latency(task, _) | Figure::StillWaiting(task) => {
             format!(in alloc; "task {task}")
@@ -18,7 +22,9 @@ pub(crate) fn subject(alloc: Global, figure: Figure) -> Result<String, AllocErro
 }
 
 /// The name of the task that a figure is of.
-pub(crate) fn name<'a>(figure: Figure, names: &'a [String]) -> &'a str {
+pub(crate) fn name<'a>(figure: Figure, names: &'a [String]) -> &'a str
+    ensures { result.now ≡ name_of_figure figure names.now }
+{
     let task = match figure {
         Figure::Task(task, _) | Figure::Latency(task, _) | Figure::StillWaiting(task) => task,
         _ => return "",
@@ -68,7 +74,9 @@ fn latency_word(figure: LatencyFigure) -> &'static str {
 }
 
 /// Whether a figure is a time; otherwise it is a count.
-pub(crate) fn is_time(figure: Figure) -> bool {
+pub(crate) fn is_time(figure: Figure) -> bool
+    ensures { result ≡ is_time figure }
+{
     match figure {
         Figure::Task(_, figure) => matches!(
             figure,
@@ -83,6 +91,8 @@ pub(crate) fn is_time(figure: Figure) -> bool {
 }
 
 /// The unit of a figure: `ns`, or `1` of a count.
-pub(crate) fn unit(figure: Figure) -> &'static str {
+pub(crate) fn unit(figure: Figure) -> &'static str
+    ensures { result.now ≡ unit_of_figure figure }
+{
     if is_time(figure) { "ns" } else { "1" }
 }
