@@ -8,7 +8,7 @@ use Rattle.clap.specs.Words.{Row, Text, all_of, first_of}
 use Rattle.bq_hooks.specs.Hooks.{hook_of, version_of}
 use Rattle.bq_hooks.specs.declared.hook.Hook.{Hook}
 use Rattle.bq_hooks.specs.declared.hook.Version.{Version}
-use Rattle.bq_console.specs.Words.{GivesWord}
+use Rattle.bq_console.specs.Words.{GivesWord, IsNumber}
 use Rattle.bq_console.specs.declared.fault.WordsFault.{WordsFault}
 use Rattle.bq_console.specs.declared.fault.WordsFault.TheVariants.{OutOfMemory}
 use Rattle.bq_words.specs.Quantities.{size_in_word, decimal_of}
@@ -107,6 +107,12 @@ pub record AreRunWords (rows : List Row) (w : RunWords) : Type 0 where
   pub counters : AreAll (codes "counter") rows w.counters.items
   pub time : IsFirstWord (codes "time") rows w.time
   pub processor : IsFirstWord (codes "processor") rows w.processor
+
+-- a limit is the number that the word writes in decimal, or this one without a word
+pub record IsLimit (usual : ℕ) (word : Option (List ℕ)) (most : ℕ) : Type 0 where
+  pub stated : Option ℕ
+  pub gives : GivesWord IsNumber word stated
+  pub is : most ≡ unwrap_or stated usual
 
 -- there is a word, and it names this value
 abbrev pub NamesValue : {A : Type 0} → (List ℕ → Option A) → Option (Bor (List ℕ)) → A → Type 0

@@ -1,8 +1,7 @@
 //! `asm`: an assembler text, assembled to the hex of its program or of an image.
-ghost use Rattle.std.specs.Prelude.{◌≡◌, IfOk, IfErr};
+ghost use Rattle.std.specs.Prelude.{IfOk, IfErr};
 ghost use Rattle.clap.specs.Words.{found_of, rows_of};
-ghost use Rattle.bq_cli.specs.Words.{AreAsmWords};
-ghost use Rattle.bq_cli.specs.declared.asm.AsmWords.{AsmWords as AsmWordsValue};
+ghost use Rattle.bq_cli.specs.Words.{AreAsmWords, OnlyMemoryFails};
 
 use crate::command::Command;
 use crate::dispatch::perform_from;
@@ -33,7 +32,7 @@ pub struct AsmWords {
 /// The words that were found. One that names no hook or no format is refused; the text of the maps is judged with the file.
 pub(crate) fn asm_words(alloc: Global, matches: &ArgMatches<'_>) -> Result<AsmWords, WordsFault>
     ensures ok { IfOk result (AreAsmWords (rows_of (found_of matches.now))) }
-    ensures taken { IfErr result (λ e. (words : AsmWordsValue) → AreAsmWords (rows_of (found_of matches.now)) words → e ≡ WordsFault.OutOfMemory) }
+    ensures taken { IfErr result (OnlyMemoryFails (AreAsmWords (rows_of (found_of matches.now)))) }
 {
     let words = policy_words(alloc, matches)?;
     let hook = hook_in(alloc, &words.hook)?;

@@ -3,7 +3,7 @@ ghost use Rattle.std.specs.Prelude.{◌≡◌, [], IfOk, IfErr, map, true};
 ghost use Rattle.clap.specs.Words.{fault_of, takes, subcommand_of, subcommand_rows_of};
 ghost use Rattle.bq_cli.specs.BqsimApp.{bqsim_app};
 ghost use Rattle.bq_cli.specs.Commands.{IsCommand, IsCommandIn};
-ghost use Rattle.bq_cli.specs.declared.command.Command.{Command as CommandValue};
+ghost use Rattle.bq_cli.specs.Words.{OnlyMemoryFails};
 
 use crate::asm::{AsmWords, asm_words};
 use crate::check::check_words;
@@ -73,7 +73,7 @@ fn found<'a>(alloc: Global, words: &'a [&'a str]) -> Result<ArgMatches<'a>, Word
 /// The command that clap found, with its values.
 fn command_in(alloc: Global, matches: &ArgMatches<'_>) -> Result<Command, WordsFault>
     ensures ok { IfOk result (IsCommandIn (subcommand_rows_of matches.now)) }
-    ensures taken { IfErr result (λ e. (command : CommandValue) → IsCommandIn (subcommand_rows_of matches.now) command → e ≡ WordsFault.OutOfMemory) }
+    ensures taken { IfErr result (OnlyMemoryFails (IsCommandIn (subcommand_rows_of matches.now))) }
 {
     if let Some(matches) = matches.subcommand_matches("asm") {
         return Ok(Command::Asm(asm_words(alloc, matches)?));

@@ -1,10 +1,8 @@
 //! A policy among the words of a command: its file, its hook, its maps and its format.
-ghost use Rattle.std.specs.Prelude.{◌≡◌, Option, IfOk, IfErr};
+ghost use Rattle.std.specs.Prelude.{◌≡◌, IfOk, IfErr};
 ghost use Rattle.clap.specs.Words.{found_of, rows_of};
-ghost use Rattle.bq_hooks.specs.declared.hook.Hook.{Hook as HookValue};
-ghost use Rattle.bq_hooks.specs.declared.hook.Version.{Version as VersionValue};
 ghost use Rattle.bq_policy_check.specs.Given.{option_bytes};
-ghost use Rattle.bq_cli.specs.Words.{ArePolicyWords, GivesHook, GivesVersion, name_nothing};
+ghost use Rattle.bq_cli.specs.Words.{ArePolicyWords, GivesHook, GivesVersion, OnlyMemoryFails, name_nothing};
 
 use bq_console::{WordsFault, refused_value, word};
 use bq_hooks::{Hook, Version};
@@ -47,7 +45,7 @@ pub(crate) fn name_nothing(words: &PolicyWords) -> bool
 /// The hook that a word names, if there is a word.
 pub(crate) fn hook_in(alloc: Global, word: &Option<String>) -> Result<Option<Hook>, WordsFault>
     ensures ok { IfOk result (GivesHook (option_bytes word.now)) }
-    ensures taken { IfErr result (λ e. (named : Option HookValue) → GivesHook (option_bytes word.now) named → e ≡ WordsFault.OutOfMemory) }
+    ensures taken { IfErr result (OnlyMemoryFails (GivesHook (option_bytes word.now))) }
 {
     let Some(word) = word else {
         return Ok(None);
@@ -61,7 +59,7 @@ pub(crate) fn hook_in(alloc: Global, word: &Option<String>) -> Result<Option<Hoo
 /// The version that a word names, if there is a word.
 pub(crate) fn format_in(alloc: Global, word: &Option<String>) -> Result<Option<Version>, WordsFault>
     ensures ok { IfOk result (GivesVersion (option_bytes word.now)) }
-    ensures taken { IfErr result (λ e. (named : Option VersionValue) → GivesVersion (option_bytes word.now) named → e ≡ WordsFault.OutOfMemory) }
+    ensures taken { IfErr result (OnlyMemoryFails (GivesVersion (option_bytes word.now))) }
 {
     let Some(word) = word else {
         return Ok(None);

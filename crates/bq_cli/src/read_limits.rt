@@ -1,4 +1,8 @@
 //! The most bytes and events that a command reads, from the words of its options.
+ghost use Rattle.std.specs.Prelude.{IfErr, IfOk};
+ghost use Rattle.bq_console.specs.Words.{GivesWord, IsNumber};
+ghost use Rattle.bq_policy_check.specs.Given.{option_bytes};
+ghost use Rattle.bq_cli.specs.Words.{IsLimit, OnlyMemoryFails};
 
 use bq_console::{MOST_BYTES, WordsFault, refused_value};
 use bq_words::number;
@@ -10,7 +14,10 @@ const BYTES: &str = "a number of bytes is a whole number below 2^64, as 1048576"
 const EVENTS: &str = "a number of events is a whole number below 2^64, as 1000000";
 
 /// The most bytes that are read, by the word of `--max-bytes` if there is one.
-pub(crate) fn most_bytes(alloc: Global, word: &Option<String>) -> Result<u64, WordsFault> {
+pub(crate) fn most_bytes(alloc: Global, word: &Option<String>) -> Result<u64, WordsFault>
+    ensures most { IfOk result (IsLimit MOST_BYTES (option_bytes word.now)) }
+    ensures taken { IfErr result (OnlyMemoryFails (IsLimit MOST_BYTES (option_bytes word.now))) }
+{
     match limit_of_bytes(alloc, word)? {
         Some(most) => Ok(most),
         None => Ok(MOST_BYTES),
@@ -21,12 +28,18 @@ pub(crate) fn most_bytes(alloc: Global, word: &Option<String>) -> Result<u64, Wo
 pub(crate) fn limit_of_bytes(
     alloc: Global,
     word: &Option<String>,
-) -> Result<Option<u64>, WordsFault> {
+) -> Result<Option<u64>, WordsFault>
+    ensures limit { IfOk result (GivesWord IsNumber (option_bytes word.now)) }
+    ensures taken { IfErr result (OnlyMemoryFails (GivesWord IsNumber (option_bytes word.now))) }
+{
     limit_in(alloc, word, "max-bytes", BYTES)
 }
 
 /// The most events of a run, by the word of `--max-events` if there is one.
-pub(crate) fn most_events(alloc: Global, word: &Option<String>) -> Result<u64, WordsFault> {
+pub(crate) fn most_events(alloc: Global, word: &Option<String>) -> Result<u64, WordsFault>
+    ensures most { IfOk result (IsLimit u64.MAX (option_bytes word.now)) }
+    ensures taken { IfErr result (OnlyMemoryFails (IsLimit u64.MAX (option_bytes word.now))) }
+{
     match limit_in(alloc, word, "max-events", EVENTS)? {
         Some(most) => Ok(most),
         None => Ok(u64::MAX),
@@ -39,7 +52,10 @@ fn limit_in(
     word: &Option<String>,
     option: &str,
     right: &str,
-) -> Result<Option<u64>, WordsFault> {
+) -> Result<Option<u64>, WordsFault>
+    ensures limit { IfOk result (GivesWord IsNumber (option_bytes word.now)) }
+    ensures taken { IfErr result (OnlyMemoryFails (GivesWord IsNumber (option_bytes word.now))) }
+{
     let Some(word) = word else {
         return Ok(None);
     };

@@ -3,10 +3,10 @@ use Rattle.std.specs.Prelude.{ℕ, Bool, true, false, List, [], ◌++◌, Option
 use Rattle.std.specs.Fmt.{decimal}
 use Rattle.std.specs.declared.alloc.Global.{Global}
 use Rattle.bq_hooks.specs.Hooks.{hook_word}
-use Rattle.bq_comparison.specs.declared.naming.Figure.{Figure}
-use Rattle.bq_comparison.specs.declared.naming.Figure.TheVariants.{Task, Latency, StillWaiting, Processor, Hook}
-use Rattle.bq_comparison.specs.declared.naming.ProcessorFigure.TheVariants as of_processor
-use Rattle.bq_comparison.specs.declared.naming.TaskFigure.TheVariants as of_task
+use Rattle.bq_comparison.specs.declared.figure.Figure.{Figure}
+use Rattle.bq_comparison.specs.declared.figure.Figure.TheVariants.{Task, Latency, StillWaiting, Processor, Hook}
+use Rattle.bq_comparison.specs.declared.figure.ProcessorFigure.TheVariants as of_processor
+use Rattle.bq_comparison.specs.declared.figure.TaskFigure.TheVariants as of_task
 
 -- what a figure is of: a task, a processor, or a hook of a processor
 abbrev pub subject_text : Figure → List ℕ

@@ -14,3 +14,4 @@ pub mod Runs
 pub mod Values
 pub mod Means
 pub mod Pairs
+pub mod TasksByName

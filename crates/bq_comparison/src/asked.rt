@@ -3,6 +3,7 @@ ghost use Rattle.std.specs.Prelude.{◌≡◌, ◌≤◌, ◌↔◌, ◌++◌, I
 ghost use Rattle.bq_timeline.specs.TasksByName.{tasks_for_names, unknown_name_notes};
 ghost use Rattle.bq_timeline.specs.Settings.{optional_word_text};
 ghost use Rattle.bq_comparison.specs.Asking.{AskFor, AskForNone, IsNoComparison, names_stretch, comparing_option_refused, seeds_asked, seeds_in, table_of, comparing_word_refused};
+ghost use Rattle.bq_comparison.specs.TasksByName.{AddsTasksByName};
 ghost use Rattle.bq_comparison.specs.declared.asked.ComparingFault.TheVariants as why;
 
 use bq_experiment::{StudyWords, workload_names};
@@ -126,9 +127,13 @@ impl Comparing {
         &mut self,
         alloc: Global,
         workload: &Workload,
-    ) -> Result<String, AllocError> {
+    ) -> Result<String, AllocError>
+        ensures called { IfOk result (AddsTasksByName workload.now self.old self.new) }
+        ensures others { (self.new.seeds ≡ self.old.seeds) × (self.new.window.processors ≡ self.old.window.processors) }
+    {
         let names = workload_names(alloc, workload)?;
-        self.add_by_names(alloc, &names)
+        let notes = self.add_by_names(alloc, &names)?;
+        Ok(notes)
     }
 
     /// Adds the tasks that are asked for by name to the tasks that are shown; `names` has the names of the tasks. Returns a note

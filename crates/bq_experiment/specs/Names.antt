@@ -1,12 +1,12 @@
 -- The names of a workload's tasks, and the comments of a trace that tell them.
-use Rattle.std.specs.Prelude.{◌≡◌, ℕ, ◌+◌, ◌==◌, ◌||◌, List, [], ◌∷◌, ◌++◌, map, flat_map, chars, codes, if◌then◌else◌, string_bytes}
+use Rattle.std.specs.Prelude.{◌≡◌, ℕ, ◌+◌, ◌==◌, ◌||◌, List, [], ◌∷◌, ◌++◌, None, map, flat_map, chars, codes, if◌then◌else◌, string_bytes}
 use Rattle.std.specs.Char.{is_ascii_graphic}
 use Rattle.std.specs.Fmt.{decimal}
 use Rattle.std.specs.List.{range_with_len}
 use Rattle.std.proofs.Math.Utf8.{encodes}
 use Rattle.bq_workload.specs.declared.workload.TaskKind.{TaskKind}
 use Rattle.bq_workload.specs.declared.workload.Workload.{Workload}
-use Rattle.bq_report.specs.Names.{Learns, NamedTasks}
+use Rattle.bq_report.specs.Names.{Learns, NamedTasks, name_of}
 use Rattle.bq_timeline.specs.TasksByName.{shown_letter}
 
 -- the name of a task, by its number among the tasks of its kind: the kind's name, with the number if the kind has several tasks
@@ -62,3 +62,9 @@ shown_comments w = comments_by shown_name 0 (names_of w.tasks.items)
 abbrev pub LearnsAll : List (List ℕ) → NamedTasks → NamedTasks → Type 0
 LearnsAll [] old new = new ≡ old
 LearnsAll (comment ∷ more) old new = (mid : NamedTasks) × Learns comment old mid × LearnsAll more mid new
+
+-- the names that the comments for a viewer give to a workload's tasks, of which none had a name before
+pub record AreNamesOf (w : Workload) (names : NamedTasks) : Type 0 where
+  pub begun : NamedTasks
+  pub nobody : (task : ℕ) → name_of begun task ≡ None
+  pub learnt : LearnsAll (shown_comments w) begun names

@@ -2,7 +2,7 @@
 ghost use Rattle.std.specs.Prelude.{◌≡◌, ◌<◌, ◌++◌, map, length, IfOk, OnOk, string_bytes};
 ghost use Rattle.bq_timeline.specs.Comments.{ViewerRests};
 ghost use Rattle.bq_trace.specs.TraceEvents.{TakesAll};
-ghost use Rattle.bq_experiment.specs.Names.{LearnsAll, comments_of, name_of_task, names_of_kind, names_of, plain_name, plain_of, shown_comments, shown_name};
+ghost use Rattle.bq_experiment.specs.Names.{AreNamesOf, LearnsAll, comments_of, name_of_task, names_of_kind, names_of, plain_name, plain_of, shown_comments, shown_name};
 ghost use Rattle.bq_experiment.specs.Traces.{skipped};
 
 use bq_report::Names;
@@ -84,9 +84,12 @@ pub(crate) fn show_names(
 }
 
 /// The names of a workload's tasks, as a screen has them of one run.
-pub fn workload_names(alloc: Global, workload: &Workload) -> Result<Names, AllocError> {
+pub fn workload_names(alloc: Global, workload: &Workload) -> Result<Names, AllocError>
+    ensures { IfOk result (AreNamesOf workload.now) }
+{
+    let comments = shown_comments(alloc, workload)?;
     let mut names = Names::new(alloc);
-    for comment in &shown_comments(alloc, workload)? {
+    'comments: for comment in &comments {
         names.learn(comment.as_bytes())?;
     }
     Ok(names)

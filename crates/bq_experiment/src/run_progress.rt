@@ -18,7 +18,7 @@ pub struct RunProgress<'a> {
 
 impl<'a> RunProgress<'a> {
     /// The progress of a run of this workload, of which no event has come.
-    pub fn new(workload: &Workload, progress: &'a ProgressLine<'a>) -> RunProgress<'a> {
+    pub(crate) fn new(workload: &Workload, progress: &'a ProgressLine<'a>) -> RunProgress<'a> {
         RunProgress {
             progress,
             duration: workload.machine.duration,
@@ -28,7 +28,7 @@ impl<'a> RunProgress<'a> {
     }
 
     /// Counts an event. About once a second, shows how far the run is.
-    pub fn count(&mut self, event: &Event) {
+    pub(crate) fn count(&mut self, event: &Event) {
         if let Some(now) = time_of(event) {
             self.now = now;
         }

@@ -37,7 +37,7 @@ fn maps_complaint(alloc: Global, options: &Options) -> Result<String, AllocError
 }
 
 /// What is wrong with the text of `--maps`, which names no maps.
-pub fn maps_option_text(alloc: Global, text: &str) -> Result<String, AllocError> {
+pub(crate) fn maps_option_text(alloc: Global, text: &str) -> Result<String, AllocError> {
     let why = maps_fault_text(alloc, text)?;
     format!(in alloc; "--maps: {why}")
 }

@@ -27,7 +27,7 @@ pub use accepting::accepted_image;
 pub use answered::Answered;
 pub use asm_head::{AsmRefusal, asm_refusal};
 pub use asm_notes::asm_note;
-pub use asm_options::{maps_option_text, options_complaint};
+pub use asm_options::options_complaint;
 pub use checking::check;
 pub use file_fault::{FileFault, HOOK_UNNAMED, fault_line, fault_reason};
 pub use given::{FORMAT, HOOK, HOOK_WORDS, given_head};
