@@ -9,7 +9,7 @@ use crate::text_kind::{TextKind, kind_of_text};
 use bq_asm::{AsmFault, AssemblyCause, assemble};
 use std::alloc::{AllocError, Global};
 
-/// One line on what is wrong with the text, by the number of the line at fault; None exactly if the assembler takes it.
+/// Writes one line on what is wrong with the text, by the number of the line at fault; None exactly if the assembler takes it.
 pub fn complaint(alloc: Global, text: &[u8]) -> Result<Option<String>, AllocError>
     ensures complains { IfOk result (ComplainsOf text.now) }
     ensures line { IfOk result (λ c. IfSome c (λ reported. IsUtf8 text.now → NamesLine text.now (string_bytes reported))) }
@@ -24,7 +24,7 @@ pub fn complaint(alloc: Global, text: &[u8]) -> Result<Option<String>, AllocErro
     }
 }
 
-/// The line of that number, and what is wrong with it.
+/// Writes the number of a line, and what is wrong with the line.
 fn line_complaint(
     alloc: Global,
     text: &str,
@@ -53,7 +53,7 @@ pub fn assembly_fault_text(
     reason(alloc, text, number, cause)
 }
 
-/// The line of that number, counted from 1; empty if there is no such line.
+/// Returns the line of that number, counted from 1; empty if there is no such line.
 fn line_numbered(text: &str, number: usize) -> &str {
     let mut at: usize = 0;
     for line in text.lines() {
@@ -78,7 +78,7 @@ fn reason(
     }
 }
 
-/// What a text is that was not written for the assembler, and what to do with it.
+/// Says what a text is that was not written for the assembler, and what to do with it.
 fn foreign_text(text: &str) -> Option<&'static str> {
     if text.as_bytes().starts_with(b"\xef\xbb\xbf") {
         return Some(

@@ -3,7 +3,7 @@ use bq_asm::Mnemonic;
 use bq_bpf::with_helpers;
 use std::alloc::{AllocError, Global};
 
-/// The instruction that the word says, with operands that it takes.
+/// Shows how an instruction of that first word is written, with operands that it takes.
 pub(crate) fn form_of(alloc: Global, word: &str, mnemonic: Mnemonic) -> Result<String, AllocError> {
     match mnemonic {
         Mnemonic::Alu(_, _) => format!(in alloc; "{word} r1, 5, or {word} r1, r2"),
@@ -20,8 +20,7 @@ pub(crate) fn form_of(alloc: Global, word: &str, mnemonic: Mnemonic) -> Result<S
     }
 }
 
-/// The instruction that the word says, with operands that it takes, if it goes to memory, or loads a number of 64
-/// bits or a map.
+/// Shows how an instruction of that first word is written, if it goes to memory, or loads a number of 64 bits or a map.
 fn memory_form(alloc: Global, word: &str, mnemonic: Mnemonic) -> Result<String, AllocError> {
     match mnemonic {
         Mnemonic::StoreImm(_) => {

@@ -7,7 +7,7 @@ use bq_console::Quoted;
 use bq_insn::SLOTS;
 use std::alloc::{AllocError, Global};
 
-/// Why the assembler refuses the line, for that cause.
+/// Says why the assembler refuses the line, for that cause.
 pub(crate) fn line_reason(
     alloc: Global,
     line: &str,
@@ -34,7 +34,7 @@ pub(crate) fn line_reason(
     }
 }
 
-/// The text with `\0` in place of each byte 0, as messages show it.
+/// Writes the text with `\0` in place of each byte 0, as messages show it.
 pub fn with_nul_shown(alloc: Global, text: &str) -> Result<String, AllocError> {
     let mut shown = String::new(alloc);
     let mut is_first = true;
@@ -48,7 +48,7 @@ pub fn with_nul_shown(alloc: Global, text: &str) -> Result<String, AllocError> {
     Ok(shown)
 }
 
-/// The line up to its first `;`, where a comment begins.
+/// Returns the line up to its first `;`, where a comment begins.
 fn without_comment(line: &str) -> &str {
     match line.split_once(';') {
         Some((written, _)) => written,
@@ -56,7 +56,7 @@ fn without_comment(line: &str) -> &str {
     }
 }
 
-/// Why the words of a line are none that the language has.
+/// Says why the language does not have the words of a line.
 fn word_reason(alloc: Global, line: &str) -> Result<String, AllocError> {
     let words = without_comment(line);
     let written = words.trim();
@@ -83,7 +83,7 @@ fn word_reason(alloc: Global, line: &str) -> Result<String, AllocError> {
     format!(in alloc; "\"{written}\" has other operands than {first} takes; write it as {form}")
 }
 
-/// The first word of a line; empty if it has none.
+/// Returns the first word of a line; empty if it has none.
 pub(crate) fn first_word(written: &str) -> &str {
     for word in written.split(is_between) {
         if !word.is_empty() {
@@ -93,12 +93,12 @@ pub(crate) fn first_word(written: &str) -> &str {
     ""
 }
 
-/// Whether the letter separates words: a space, a tab or a comma.
+/// Returns whether the letter separates words: a space, a tab or a comma.
 pub(crate) fn is_between(letter: char) -> bool {
     letter == ' ' || letter == '\t' || letter == ','
 }
 
-/// Why a line whose first word ends with a colon sets no label.
+/// Says why a line whose first word ends with a colon sets no label.
 fn label_reason(alloc: Global, written: &str, first: &str) -> Result<String, AllocError> {
     let shown = Quoted(written);
     if written == first {
@@ -109,7 +109,7 @@ fn label_reason(alloc: Global, written: &str, first: &str) -> Result<String, All
     format!(in alloc; "\"{shown}\" has words after its label: a label stands alone on its line")
 }
 
-/// A word that no instruction begins with, and the one that may be meant.
+/// Says that no instruction begins with a word, and which one may be meant.
 fn unknown(alloc: Global, word: &str) -> Result<String, AllocError> {
     let known = nearest(alloc, word)?;
     let word = Quoted(word);
@@ -121,7 +121,7 @@ fn unknown(alloc: Global, word: &str) -> Result<String, AllocError> {
     }
 }
 
-/// The first word of the line that names a register which does not exist: `r` and a number above 10.
+/// Returns the first word of the line that names a register which does not exist: `r` and a number above 10.
 fn no_register(written: &str) -> Option<&str> {
     for word in written.split(is_outside) {
         if let Some(digits) = word.strip_prefix('r') {
@@ -134,17 +134,17 @@ fn no_register(written: &str) -> Option<&str> {
     None
 }
 
-/// Whether these digits are a register's number.
+/// Returns whether these digits are a register's number.
 fn is_register(digits: &str) -> bool {
     digits == "10" || digits.len() == 1
 }
 
-/// Whether the letter separates words; brackets and the signs of an offset do so too.
+/// Returns whether the letter separates words; brackets and the signs of an offset do so too.
 fn is_outside(letter: char) -> bool {
     is_between(letter) || letter == '[' || letter == ']' || letter == '+' || letter == '-'
 }
 
-/// The mark by which another language begins a comment, if the line has one.
+/// Returns the mark by which another language begins a comment, if the line has one.
 fn foreign_comment(written: &str) -> Option<&'static str> {
     if written.contains("//") {
         return Some("//");
@@ -155,7 +155,7 @@ fn foreign_comment(written: &str) -> Option<&'static str> {
     None
 }
 
-/// The text in brackets, if it has a blank.
+/// Returns the text in brackets, if it has a blank.
 fn blank_in_brackets(written: &str) -> Option<&str> {
     let (_, rest) = written.split_once('[')?;
     let (inside, _) = rest.split_once(']')?;

@@ -5,7 +5,7 @@ use bq_console::Quoted;
 use bq_words::{duration, value};
 use std::alloc::{AllocError, Global};
 
-/// Why the assembler refuses a number of the line, which begins with the word of an instruction.
+/// Says why the assembler refuses a number of the line, which begins with the word of an instruction.
 pub(crate) fn number_reason(alloc: Global, written: &str) -> Result<String, AllocError> {
     let first = first_word(written);
     let mut place: usize = 0;
@@ -39,7 +39,7 @@ enum NumberKind {
     Far,
 }
 
-/// What the operand of that place is, counted from 1, if it is a number.
+/// Returns what the operand of that place is, counted from 1, if it is a number.
 fn kind_of(mnemonic: Mnemonic, place: usize) -> NumberKind {
     match mnemonic {
         Mnemonic::Imm64 => NumberKind::Wide,
@@ -82,7 +82,7 @@ enum Slip {
     Signed,
 }
 
-/// What is wrong with the word at that place of an instruction; `None` if it writes no number, or nothing is wrong with it.
+/// Finds what is wrong with the word at that place of an instruction; `None` if it writes no number, or nothing is wrong with it.
 fn slip_at(first: &str, place: usize, word: &str) -> Option<Slip> {
     let mnemonic = named(first.as_bytes())?;
     if place == 0 {
@@ -101,7 +101,7 @@ fn slip_at(first: &str, place: usize, word: &str) -> Option<Slip> {
     }
 }
 
-/// What is wrong with a word that begins as a number does, and is not one.
+/// Finds what is wrong with a word that begins as a number does, and is not one.
 fn no_number(kind: NumberKind, word: &str) -> Slip {
     let Some(time) = duration(word.as_bytes()) else {
         return Slip::NoNumber;
@@ -113,7 +113,7 @@ fn no_number(kind: NumberKind, word: &str) -> Slip {
     }
 }
 
-/// What is wrong with a number of that size, its sign aside.
+/// Finds what is wrong with a number of that size, its sign aside, if something is.
 fn size_slip(kind: NumberKind, word: &str, size: u64) -> Option<Slip> {
     let is_negative = word.starts_with('-');
     let is_signed = is_negative || word.starts_with('+');
@@ -137,7 +137,7 @@ fn size_slip(kind: NumberKind, word: &str, size: u64) -> Option<Slip> {
     }
 }
 
-/// What is wrong with a number of that size that does not fit 32 bits.
+/// Finds what is wrong with a number of that size that does not fit 32 bits.
 fn long_slip(kind: NumberKind, is_negative: bool, size: u64) -> Slip {
     if matches!(kind, NumberKind::Named) {
         return Slip::NoName;
@@ -155,12 +155,12 @@ fn long_slip(kind: NumberKind, is_negative: bool, size: u64) -> Slip {
     Slip::LongBelowZero(size.wrapping_neg())
 }
 
-/// Whether a number of that size and sign is at least minus the bound, and below the bound.
+/// Returns whether a number of that size and sign is at least minus the bound, and below the bound.
 fn fits(size: u64, is_negative: bool, bound: u64) -> bool {
     size < bound || (is_negative && size == bound)
 }
 
-/// What is wrong with the offset in brackets, if something is.
+/// Finds what is wrong with the offset in brackets, if something is.
 fn offset_slip(word: &[u8]) -> Option<Slip> {
     let inside = word.strip_prefix(b"[")?.strip_suffix(b"]")?;
     let at = inside
@@ -175,7 +175,7 @@ fn offset_slip(word: &[u8]) -> Option<Slip> {
     }
 }
 
-/// Whether a word begins as a number does: with a digit or a sign.
+/// Returns whether a word begins as a number does: with a digit or a sign.
 fn begins_number(word: &[u8]) -> bool {
     match word {
         [first, ..] => first.is_ascii_digit() || *first == b'-' || *first == b'+',
@@ -183,7 +183,7 @@ fn begins_number(word: &[u8]) -> bool {
     }
 }
 
-/// The digits of a number, without its sign, if it has one.
+/// Returns the digits of a number, without its sign, if it has one.
 fn digits_of(word: &str) -> &str {
     match word.strip_prefix('-') {
         Some(digits) => digits,
@@ -191,7 +191,7 @@ fn digits_of(word: &str) -> &str {
     }
 }
 
-/// What is wrong with a number, in words.
+/// Says what is wrong with a number, in words.
 fn slip_text(alloc: Global, first: &str, word: &str, slip: Slip) -> Result<String, AllocError> {
     let shown = Quoted(word);
     match slip {
@@ -222,7 +222,7 @@ fn slip_text(alloc: Global, first: &str, word: &str, slip: Slip) -> Result<Strin
     }
 }
 
-/// What is wrong with a jump's distance, in words.
+/// Says what is wrong with a jump's distance, in words.
 fn distance_text(alloc: Global, first: &str, word: &str, slip: Slip) -> Result<String, AllocError> {
     let word = Quoted(word);
     match slip {
@@ -238,7 +238,7 @@ fn distance_text(alloc: Global, first: &str, word: &str, slip: Slip) -> Result<S
     }
 }
 
-/// What is wrong with a number that does not fit 32 bits, in words.
+/// Says what is wrong with a number that does not fit 32 bits, in words.
 fn long_text(alloc: Global, first: &str, word: &str, slip: Slip) -> Result<String, AllocError> {
     let word = Quoted(word);
     let beyond = format!(in alloc;

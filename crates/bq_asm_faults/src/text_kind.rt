@@ -34,8 +34,8 @@ const BEGINNINGS_OF_C: [&str; 9] = [
     "unsigned ",
 ];
 
-/// What a file of these bytes holds. A text is judged by its first line that is neither empty nor a comment of C, of a workload or of a
-/// trace.
+/// Returns what a file of these bytes holds. A text is judged by its first line that is neither empty nor a comment of C, of a
+/// workload or of a trace.
 ///
 /// `machine cfs 2` begins a trace, `[machine]` a workload, `mov64 r0, 0` or `;@ hook place` a policy, and `#include "bqsim.h"` C.
 pub fn kind_of_text(bytes: &[u8]) -> TextKind {
@@ -57,14 +57,14 @@ pub fn kind_of_text(bytes: &[u8]) -> TextKind {
     TextKind::Other
 }
 
-/// Whether the line begins as one of C does.
+/// Returns whether the line begins as one of C does.
 fn begins_c(line: &str) -> bool {
     BEGINNINGS_OF_C
         .iter()
         .any(|beginning| line.starts_with(*beginning))
 }
 
-/// Whether the line is empty or a comment of another language than the assembler's.
+/// Returns whether the line is empty or a comment of another language than the assembler's.
 fn is_foreign_comment(line: &str) -> bool {
     line.is_empty()
         || line.starts_with("#")
@@ -73,7 +73,7 @@ fn is_foreign_comment(line: &str) -> bool {
         || line.starts_with("*")
 }
 
-/// What a text is that begins with this line.
+/// Returns what a text is that begins with this line.
 fn kind_of_line(line: &str) -> TextKind {
     if line.starts_with("[machine]") || line.starts_with("[[task]]") {
         return TextKind::Workload;
@@ -92,7 +92,7 @@ fn kind_of_line(line: &str) -> TextKind {
     TextKind::Other
 }
 
-/// Whether the line's first word is one of an instruction.
+/// Returns whether the line's first word is one of an instruction.
 fn begins_instruction(line: &str) -> bool {
     match line.split(' ').next() {
         Some(first) => named(first.as_bytes()).is_some(),

@@ -25,7 +25,7 @@ const FOREIGN: [(&str, &str); 15] = [
 /// The most bytes of a wrong word for which a near word is looked for. Each known word has fewer.
 const LONGEST: usize = 40;
 
-/// The word of the language that equals this one, if there is one.
+/// Finds the word of the language that equals this one, if there is one.
 fn known_as(word: &str) -> Option<&'static str> {
     for (known, _) in mnemonics() {
         if *known == word {
@@ -35,7 +35,7 @@ fn known_as(word: &str) -> Option<&'static str> {
     None
 }
 
-/// What a word of another assembler means here.
+/// Returns what a word of another assembler means here.
 fn meant_by(word: &str) -> Option<&'static str> {
     for (foreign, known) in &FOREIGN {
         if *foreign == word {
@@ -45,7 +45,7 @@ fn meant_by(word: &str) -> Option<&'static str> {
     None
 }
 
-/// The known word that is meant, whatever its case: the word with its width if only the width is left out, the word that
+/// Finds the known word that is meant, whatever its case: the word with its width if only the width is left out, the word that
 /// means here what a word of another assembler means, or otherwise the nearest, if one is near.
 pub(crate) fn nearest(alloc: Global, word: &str) -> Result<Option<&'static str>, AllocError> {
     if word.len() > LONGEST {
@@ -62,7 +62,7 @@ pub(crate) fn nearest(alloc: Global, word: &str) -> Result<Option<&'static str>,
     }
 }
 
-/// The nearest of the known words, if one is near.
+/// Finds the nearest of the known words, if one is near.
 fn nearest_known(alloc: Global, word: &str) -> Result<Option<&'static str>, AllocError> {
     let mut best: Option<&'static str> = None;
     let mut near = Near::of(word);

@@ -10,7 +10,7 @@ use bq_policy_check::Answered;
 use std::alloc::AllocError;
 use std::process::ExitCode;
 
-/// The exit status of an answer: 0 if it is done, 1 if the policy is refused, 2 if the words are, 3 if memory ran out.
+/// Returns the exit status of an answer: 0 if it is done, 1 if the policy is refused, 2 if the words are, 3 if memory ran out.
 pub fn exit_status_of(answer: &Result<Answered, AllocError>) -> u8
     ensures { result ≡ answer_status answer.now }
 {

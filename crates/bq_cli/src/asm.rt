@@ -29,7 +29,7 @@ pub struct AsmWords {
     pub options: Options,
 }
 
-/// The words that were found. One that names no hook or no format is refused; the text of the maps is judged with the file.
+/// Gathers the words that were found. One that names no hook or no format is refused; the text of the maps is judged with the file.
 pub(crate) fn asm_words(alloc: Global, matches: &ArgMatches<'_>) -> Result<AsmWords, WordsFault>
     ensures ok { IfOk result (AreAsmWords (rows_of (found_of matches.now))) }
     ensures taken { IfErr result (OnlyMemoryFails (AreAsmWords (rows_of (found_of matches.now)))) }

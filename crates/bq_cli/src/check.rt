@@ -23,7 +23,7 @@ use std::process::ExitCode;
 const NO_MEMORY: &str =
     "{\"accepted\":false,\"answer\":null,\"explanation\":[],\"file\":null,\"need\":\"out of memory\",\"schema\":1,\"stage\":\"memory\"}\n";
 
-/// The words that were found.
+/// Gathers the words that were found.
 pub(crate) fn check_words(alloc: Global, matches: &ArgMatches<'_>) -> Result<CheckWords, AllocError>
     ensures { IfOk result (AreCheckWords (rows_of (found_of matches.now))) }
 {
@@ -41,7 +41,7 @@ pub(crate) fn check_words(alloc: Global, matches: &ArgMatches<'_>) -> Result<Che
     })
 }
 
-/// The words of the keeper's own limits.
+/// Gathers the words of the keeper's own limits.
 fn limit_words(alloc: Global, matches: &ArgMatches<'_>) -> Result<LimitWords, AllocError>
     ensures { IfOk result (AreLimitWords (rows_of (found_of matches.now))) }
 {
@@ -61,7 +61,7 @@ fn limit_words(alloc: Global, matches: &ArgMatches<'_>) -> Result<LimitWords, Al
     })
 }
 
-/// Whether there is no file and no option: then the hex of an image is read from standard input.
+/// Returns whether there is no file and no option: then the hex of an image is read from standard input.
 pub(crate) fn is_plain_check(words: &CheckWords) -> bool
     ensures { result ≡ is_plain_check words.now }
 {
@@ -72,7 +72,7 @@ pub(crate) fn is_plain_check(words: &CheckWords) -> bool
         && words.image.is_none()
 }
 
-/// Whether no word sets a limit.
+/// Returns whether no word sets a limit.
 fn limit_nothing(words: &LimitWords) -> bool
     ensures { result ≡ limit_nothing words.now }
 {
@@ -129,8 +129,8 @@ const NO_FILE: &str =
 const OWN_FILE: &str =
     "--image names the policy's own file, which the image would replace: name another file";
 
-/// The most bytes that are read of a file. Words that want one image of several policies, or an image in place of a policy, are
-/// refused.
+/// Returns the most bytes that are read of a file. Words that want one image of several policies, or an image in place of a policy,
+/// are refused.
 fn most_read(alloc: Global, words: &CheckWords) -> Result<u64, WordsFault>
     ensures { IfOk result (λ most. replaces_policy words.now ≡ false) }
 {
@@ -148,7 +148,7 @@ fn most_read(alloc: Global, words: &CheckWords) -> Result<u64, WordsFault>
     most_bytes(alloc, &words.policy.max_bytes)
 }
 
-/// Whether the image would go to a file of a policy.
+/// Returns whether the image would go to a file of a policy.
 fn replaces_policy(words: &CheckWords) -> bool
     ensures { result ≡ replaces_policy words.now }
 {
@@ -158,7 +158,7 @@ fn replaces_policy(words: &CheckWords) -> bool
     }
 }
 
-/// Whether a word is one of some words.
+/// Returns whether a word is one of some words.
 fn is_among(word: &str, others: &[String]) -> bool
     ensures { result ≡ is_among word.now others.now }
 {

@@ -60,7 +60,7 @@ pub fn job<'a>(alloc: Global, words: &'a [&'a str]) -> Result<Command, WordsFaul
     command_in(alloc, &matches)
 }
 
-/// What clap finds in the words.
+/// Returns what clap finds in the words.
 fn found<'a>(alloc: Global, words: &'a [&'a str]) -> Result<ArgMatches<'a>, WordsFault>
     ensures ok { IfOk result (λ m. subcommand_rows_of m ≡ subcommand_of bqsim_app (map (λ w. w.now) words.entry.now)) }
     ensures faultless { IfOk result (λ _. fault_of bqsim_app (map (λ w. w.now) words.entry.now) ≡ []) }
@@ -70,7 +70,7 @@ fn found<'a>(alloc: Global, words: &'a [&'a str]) -> Result<ArgMatches<'a>, Word
     found_in(alloc, command, words)
 }
 
-/// The command that clap found, with its values.
+/// Returns the command that clap found, with its values.
 fn command_in(alloc: Global, matches: &ArgMatches<'_>) -> Result<Command, WordsFault>
     ensures ok { IfOk result (IsCommandIn (subcommand_rows_of matches.now)) }
     ensures taken { IfErr result (OnlyMemoryFails (IsCommandIn (subcommand_rows_of matches.now))) }
@@ -105,7 +105,7 @@ fn command_in(alloc: Global, matches: &ArgMatches<'_>) -> Result<Command, WordsF
     Err(no_command(alloc))
 }
 
-/// The fault of words with no command. clap refuses these itself.
+/// Makes the fault of words with no command. clap refuses these itself.
 fn no_command(alloc: Global) -> WordsFault {
     words_fault(String::from_str(
         alloc,

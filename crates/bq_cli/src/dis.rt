@@ -12,7 +12,7 @@ use clap::ArgMatches;
 use std::alloc::{AllocError, Global};
 use std::process::ExitCode;
 
-/// The words that were found.
+/// Gathers the words that were found.
 pub(crate) fn dis_words(alloc: Global, matches: &ArgMatches<'_>) -> Result<DisWords, AllocError>
     ensures { IfOk result (AreDisWords (rows_of (found_of matches.now))) }
 {
@@ -23,7 +23,7 @@ pub(crate) fn dis_words(alloc: Global, matches: &ArgMatches<'_>) -> Result<DisWo
     })
 }
 
-/// Whether there is no file and no option: then the hex of a program is read from standard input.
+/// Returns whether there is no file and no option: then the hex of a program is read from standard input.
 pub(crate) fn is_plain_dis(words: &DisWords) -> bool
     ensures { result ≡ is_plain_dis words.now }
 {

@@ -26,7 +26,7 @@ pub(crate) enum Filter {
 }
 
 impl Filter {
-    /// The answer to an input.
+    /// Answers an input.
     fn answer(&self, alloc: Global, input: &[u8]) -> Result<Answer, AllocError>
         ensures { IfOk result (λ a. FilterWrites self.now input.now a.accepted (string_bytes a.text)) }
     {

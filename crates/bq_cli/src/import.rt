@@ -26,7 +26,7 @@ use clap::ArgMatches;
 use std::alloc::{AllocError, Global};
 use std::process::ExitCode;
 
-/// The words that were found. clap refuses words without a hook.
+/// Gathers the words that were found. clap refuses words without a hook.
 pub(crate) fn import_words(
     alloc: Global,
     matches: &ArgMatches<'_>,
@@ -36,7 +36,7 @@ pub(crate) fn import_words(
     policy_words(alloc, matches)
 }
 
-/// What the words ask for. They are refused only if they say no hook, no maps or no format.
+/// Returns what the words ask for. Words are refused only if they say no hook, no maps or no format.
 pub fn import_settings(alloc: Global, words: &PolicyWords) -> Result<ImportSettings, WordsFault>
     ensures asked { IfOk result (AskToImport words.now) }
     ensures none { IfErr result (GivesNone (AskToImport words.now)) }
@@ -115,7 +115,7 @@ fn import_bytes(rt: &HostRuntime, name: &str, settings: &ImportSettings, bytes: 
     }
 }
 
-/// Whether the program is refused for the number of its bytes.
+/// Returns whether the program is refused for the number of its bytes.
 fn is_of_wrong_length(refusal: &ImportRefusal) -> bool {
     match refusal {
         ImportRefusal::Import(ImportFault::At { reason, .. }) => matches!(
@@ -126,7 +126,7 @@ fn is_of_wrong_length(refusal: &ImportRefusal) -> bool {
     }
 }
 
-/// The line of C that a refusal is of, if an object says it.
+/// Returns the line of C that a refusal is of, if an object says it.
 fn source_of<'a>(
     alloc: Global,
     refusal: &ImportRefusal,
@@ -186,7 +186,7 @@ fn refused_by_check(alloc: Global, made: &ImportedText<'_>) -> Result<Option<Str
     Ok(Some(explanation_text(alloc, &policy, file, &explanation)?))
 }
 
-/// The file that all these lines are of, if it is one.
+/// Returns the file that all these lines are of, if it is one.
 fn file_of<'a>(sources: &[Option<SourceLine<'a>>]) -> Option<&'a str> {
     let first = sources.first().copied().flatten()?;
     for source in sources {
@@ -198,7 +198,7 @@ fn file_of<'a>(sources: &[Option<SourceLine<'a>>]) -> Option<&'a str> {
     Some(first.file)
 }
 
-/// The numbers of these lines.
+/// Lists the numbers of these lines.
 fn line_numbers(
     alloc: Global,
     sources: &[Option<SourceLine<'_>>],

@@ -54,7 +54,7 @@ const SIZE: &str = with_sizes!("a number of processors is ");
 /// What the value of `--ticks` is.
 const TICKS: &str = with_ticks!("a number of ticks is ");
 
-/// The words that were found. A value that names nothing is refused.
+/// Gathers the words that were found. A value that names nothing is refused.
 pub(crate) fn par_words(alloc: Global, matches: &ArgMatches<'_>) -> Result<ParWords, WordsFault>
     ensures ok { IfOk result (AreParWords (rows_of (found_of matches.now))) }
     ensures taken { IfErr result (OnlyMemoryFails (AreParWords (rows_of (found_of matches.now)))) }
@@ -69,7 +69,7 @@ pub(crate) fn par_words(alloc: Global, matches: &ArgMatches<'_>) -> Result<ParWo
     })
 }
 
-/// The discipline that a word names.
+/// Returns the discipline that a word names.
 fn discipline_in(alloc: Global, word: Option<&str>) -> Result<DisciplineName, WordsFault>
     ensures ok { IfOk result (NamesValue discipline_named word.entry) }
     ensures taken { IfErr result (OnlyMemoryFails (NamesValue discipline_named word.entry)) }
@@ -83,7 +83,7 @@ fn discipline_in(alloc: Global, word: Option<&str>) -> Result<DisciplineName, Wo
     }
 }
 
-/// The number of processors that a word names.
+/// Returns the number of processors that a word names.
 fn size_in(alloc: Global, word: Option<&str>) -> Result<ProcessorCount, WordsFault>
     ensures ok { IfOk result (NamesValue size_in_word word.entry) }
     ensures taken { IfErr result (OnlyMemoryFails (NamesValue size_in_word word.entry)) }
@@ -97,7 +97,7 @@ fn size_in(alloc: Global, word: Option<&str>) -> Result<ProcessorCount, WordsFau
     }
 }
 
-/// The number of ticks that a word names.
+/// Returns the number of ticks that a word names.
 fn ticks_in(alloc: Global, word: Option<&str>) -> Result<u32, WordsFault>
     ensures ok { IfOk result (NamesValue ticks_of word.entry) }
     ensures taken { IfErr result (OnlyMemoryFails (NamesValue ticks_of word.entry)) }
@@ -111,7 +111,7 @@ fn ticks_in(alloc: Global, word: Option<&str>) -> Result<u32, WordsFault>
     }
 }
 
-/// A number of ticks, in decimal.
+/// Reads a number of ticks, in decimal.
 fn ticks_named(word: &[u8]) -> Option<u32>
     ensures { result ≡ ticks_of word.now }
 {

@@ -10,7 +10,7 @@ use bq_policy_check::{FORMAT, HOOK, HOOK_WORDS, PolicyWords};
 use clap::ArgMatches;
 use std::alloc::{AllocError, Global};
 
-/// The words that were found for a policy.
+/// Gathers the words that were found for a policy.
 pub(crate) fn policy_words(
     alloc: Global,
     matches: &ArgMatches<'_>,
@@ -31,7 +31,7 @@ pub(crate) fn policy_words(
     })
 }
 
-/// Whether no word names a file, a hook, maps, a format or a number of bytes.
+/// Returns whether no word names a file, a hook, maps, a format or a number of bytes.
 pub(crate) fn name_nothing(words: &PolicyWords) -> bool
     ensures { result ≡ name_nothing words.now }
 {
@@ -42,7 +42,7 @@ pub(crate) fn name_nothing(words: &PolicyWords) -> bool
         && words.max_bytes.is_none()
 }
 
-/// The hook that a word names, if there is a word.
+/// Returns the hook that a word names, if there is a word.
 pub(crate) fn hook_in(alloc: Global, word: &Option<String>) -> Result<Option<Hook>, WordsFault>
     ensures ok { IfOk result (GivesHook (option_bytes word.now)) }
     ensures taken { IfErr result (OnlyMemoryFails (GivesHook (option_bytes word.now))) }
@@ -56,7 +56,7 @@ pub(crate) fn hook_in(alloc: Global, word: &Option<String>) -> Result<Option<Hoo
     }
 }
 
-/// The version that a word names, if there is a word.
+/// Returns the version that a word names, if there is a word.
 pub(crate) fn format_in(alloc: Global, word: &Option<String>) -> Result<Option<Version>, WordsFault>
     ensures ok { IfOk result (GivesVersion (option_bytes word.now)) }
     ensures taken { IfErr result (OnlyMemoryFails (GivesVersion (option_bytes word.now))) }

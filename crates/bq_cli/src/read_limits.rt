@@ -13,7 +13,7 @@ const BYTES: &str = "a number of bytes is a whole number below 2^64, as 1048576"
 /// What a number of events is.
 const EVENTS: &str = "a number of events is a whole number below 2^64, as 1000000";
 
-/// The most bytes that are read, by the word of `--max-bytes` if there is one.
+/// Returns the most bytes that are read, by the word of `--max-bytes` if there is one.
 pub(crate) fn most_bytes(alloc: Global, word: &Option<String>) -> Result<u64, WordsFault>
     ensures most { IfOk result (IsLimit MOST_BYTES (option_bytes word.now)) }
     ensures taken { IfErr result (OnlyMemoryFails (IsLimit MOST_BYTES (option_bytes word.now))) }
@@ -24,7 +24,7 @@ pub(crate) fn most_bytes(alloc: Global, word: &Option<String>) -> Result<u64, Wo
     }
 }
 
-/// The number that the word of `--max-bytes` says, if there is one.
+/// Returns the number that the word of `--max-bytes` says, if there is one.
 pub(crate) fn limit_of_bytes(
     alloc: Global,
     word: &Option<String>,
@@ -35,7 +35,7 @@ pub(crate) fn limit_of_bytes(
     limit_in(alloc, word, "max-bytes", BYTES)
 }
 
-/// The most events of a run, by the word of `--max-events` if there is one.
+/// Returns the most events of a run, by the word of `--max-events` if there is one.
 pub(crate) fn most_events(alloc: Global, word: &Option<String>) -> Result<u64, WordsFault>
     ensures most { IfOk result (IsLimit u64.MAX (option_bytes word.now)) }
     ensures taken { IfErr result (OnlyMemoryFails (IsLimit u64.MAX (option_bytes word.now))) }
@@ -46,7 +46,7 @@ pub(crate) fn most_events(alloc: Global, word: &Option<String>) -> Result<u64, W
     }
 }
 
-/// The number that the word of an option says, if there is one.
+/// Returns the number that the word of an option says, if there is one.
 fn limit_in(
     alloc: Global,
     word: &Option<String>,

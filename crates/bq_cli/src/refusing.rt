@@ -4,7 +4,7 @@ use bq_timeline::RefusedWord;
 use std::alloc::Global;
 use std::fmt;
 
-/// The fault of words that are refused for this reason: if it is that of one word, the word is quoted.
+/// Makes the fault of words that are refused for this reason: if it is that of one word, the word is quoted.
 pub(crate) fn refusal<Y: fmt::Display>(
     alloc: Global,
     why: &Y,

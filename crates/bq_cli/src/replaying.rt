@@ -22,7 +22,7 @@ pub struct ReplayWords {
     pub max_bytes: Option<String>,
 }
 
-/// The words that were found.
+/// Gathers the words that were found.
 pub(crate) fn replay_words(
     alloc: Global,
     matches: &ArgMatches<'_>,

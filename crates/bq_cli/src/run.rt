@@ -14,7 +14,7 @@ use clap::ArgMatches;
 use std::alloc::{AllocError, Global};
 use std::process::ExitCode;
 
-/// The words that were found.
+/// Gathers the words that were found.
 pub(crate) fn run_words(alloc: Global, matches: &ArgMatches<'_>) -> Result<RunWords, AllocError>
     ensures { IfOk result (AreRunWords (rows_of (found_of matches.now))) }
 {
@@ -35,7 +35,7 @@ pub(crate) fn run_words(alloc: Global, matches: &ArgMatches<'_>) -> Result<RunWo
     })
 }
 
-/// The time and the processor of a run.
+/// Gathers the time and the processor of a run.
 fn moment_words(
     alloc: Global,
     matches: &ArgMatches<'_>,
@@ -48,7 +48,7 @@ fn moment_words(
     Ok((time, processor))
 }
 
-/// The fields, entries and counters that a run begins with.
+/// Gathers the fields, entries and counters that a run begins with.
 fn begun_with(
     alloc: Global,
     matches: &ArgMatches<'_>,
@@ -63,7 +63,7 @@ fn begun_with(
     Ok((fields, entries, counters))
 }
 
-/// The words on how a run is reported.
+/// Gathers the words on how a run is reported.
 fn report_words(alloc: Global, matches: &ArgMatches<'_>) -> Result<ReportWords, AllocError>
     ensures { IfOk result (AreReportWords (rows_of (found_of matches.now))) }
 {

@@ -43,7 +43,7 @@ pub struct SimulateWords {
     pub max_events: Option<String>,
 }
 
-/// The words that were found.
+/// Gathers the words that were found.
 pub(crate) fn simulate_words(
     alloc: Global,
     matches: &ArgMatches<'_>,
@@ -60,7 +60,7 @@ pub(crate) fn simulate_words(
     })
 }
 
-/// The words for the simulation, and for how it is shown.
+/// Gathers the words for the simulation, and for how it is shown.
 fn study_words(alloc: Global, matches: &ArgMatches<'_>) -> Result<StudyWords, AllocError>
     ensures { IfOk result (AreStudyWords (rows_of (found_of matches.now))) }
 {
@@ -78,7 +78,7 @@ fn study_words(alloc: Global, matches: &ArgMatches<'_>) -> Result<StudyWords, Al
     })
 }
 
-/// The words for the machine.
+/// Gathers the words for the machine.
 fn machine_words(alloc: Global, matches: &ArgMatches<'_>) -> Result<MachineWords, AllocError>
     ensures { IfOk result (AreMachineWords (rows_of (found_of matches.now))) }
 {
@@ -94,7 +94,7 @@ fn machine_words(alloc: Global, matches: &ArgMatches<'_>) -> Result<MachineWords
     })
 }
 
-/// The words for the hooks.
+/// Gathers the words for the hooks.
 fn hook_words(alloc: Global, matches: &ArgMatches<'_>) -> Result<HookWords, AllocError>
     ensures { IfOk result (AreHookWords (rows_of (found_of matches.now))) }
 {
@@ -125,7 +125,7 @@ struct AskedSimulation {
     changes: Changes,
 }
 
-/// What the words ask for.
+/// Returns what the words ask for.
 fn simulation_of(alloc: Global, words: &StudyWords) -> Result<AskedSimulation, WordsFault>
     ensures { IfOk result (AskToSimulate words.now) }
 {
@@ -136,7 +136,7 @@ fn simulation_of(alloc: Global, words: &StudyWords) -> Result<AskedSimulation, W
     }
 }
 
-/// What the words ask to be shown.
+/// Returns what the words ask to be shown.
 fn shown_of(alloc: Global, words: &StudyWords) -> Result<WorkloadShown, WordsFault>
     ensures { IfOk result (AskForStudy words.now) }
 {
@@ -154,7 +154,7 @@ fn shown_of(alloc: Global, words: &StudyWords) -> Result<WorkloadShown, WordsFau
     }
 }
 
-/// The fault of words that ask for no simulation.
+/// Makes the fault of words that ask for no simulation.
 fn asked_fault(alloc: Global, words: &StudyWords, fault: AskedFault) -> WordsFault {
     match fault {
         AskedFault::Settings(SettingsFault::OutOfMemory) => WordsFault::OutOfMemory,
@@ -293,7 +293,7 @@ fn show_figures<T: Threads + Sync>(
     }
 }
 
-/// The table of the figures on both sides.
+/// Runs both sides, and writes the table of their figures.
 fn tabled<T: Threads + Sync>(
     rt: &HostRuntime,
     threads: &T,
@@ -330,7 +330,7 @@ fn report_absent(rt: &HostRuntime, workload: &Workload, asked: &Comparing) {
     }
 }
 
-/// Whether one of that many tasks is asked for.
+/// Returns whether one of that many tasks is asked for.
 fn has_task(asked: &Comparing, count: u16) -> bool {
     for task in 0..count {
         if asked.window.shows_task(task) {
@@ -340,7 +340,7 @@ fn has_task(asked: &Comparing, count: u16) -> bool {
     false
 }
 
-/// Whether one of that many processors is asked for.
+/// Returns whether one of that many processors is asked for.
 fn has_processor(asked: &Comparing, count: u8) -> bool {
     for processor in 0..count {
         if asked.window.shows_processor(processor) {

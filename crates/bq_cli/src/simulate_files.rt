@@ -16,7 +16,7 @@ use std::io::{Error, ErrorKind};
 use std::process::ExitCode;
 use std::str::from_utf8;
 
-/// The policies that the words compare with, if they compare; `none` adds none.
+/// Reads the policies that the words compare with, if they compare; `none` adds none.
 pub(crate) fn others(
     rt: &HostRuntime,
     words: &StudyWords,
@@ -36,7 +36,7 @@ pub(crate) fn others(
     Ok(Some(policies))
 }
 
-/// The workload of the file that the words name.
+/// Reads the workload of the file that the words name.
 pub(crate) fn workload(
     rt: &HostRuntime,
     words: &StudyWords,
@@ -84,7 +84,7 @@ fn foreign_text(bytes: &[u8]) -> Option<&'static str> {
     }
 }
 
-/// The policies that the words install at the hooks.
+/// Reads the policies that the words install at the hooks.
 pub(crate) fn policies(
     rt: &HostRuntime,
     words: &StudyWords,
@@ -142,7 +142,7 @@ fn report_other_hook(rt: &HostRuntime, path: &str, hook: Hook, file: &[u8]) -> E
     ExitCode::from(BAD_INPUT)
 }
 
-/// The bytes of the file of a policy, or of standard input for `-`, unless the workload is that.
+/// Reads the bytes of the file of a policy, or of standard input for `-`, unless the workload is that.
 fn policy_bytes(
     rt: &HostRuntime,
     words: &StudyWords,

@@ -379,7 +379,7 @@ static OTHER_COMMANDS: [CommandText<'static>; 5] = [
     },
 ];
 
-/// The program with its commands. The words come without its name.
+/// Builds the program with its commands. The words come without its name.
 pub fn program<'a>(alloc: Global) -> Result<Command<'a>, AllocError>
     ensures { IfOk result (λ c. app_of c ≡ bqsim_app) }
 {

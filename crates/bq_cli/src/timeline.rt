@@ -26,7 +26,7 @@ pub struct TimelineWords {
     pub max_bytes: Option<String>,
 }
 
-/// The words that were found.
+/// Gathers the words that were found.
 pub(crate) fn timeline_words(
     alloc: Global,
     matches: &ArgMatches<'_>,
@@ -38,7 +38,7 @@ pub(crate) fn timeline_words(
     Ok(TimelineWords { shown, max_bytes })
 }
 
-/// The words that were found for a trace or a workload, and how it is shown.
+/// Gathers the words that were found for a trace or a workload, and how it is shown.
 pub(crate) fn shown_words(alloc: Global, matches: &ArgMatches<'_>) -> Result<Words, AllocError>
     ensures { IfOk result (AreShownWords (rows_of (found_of matches.now))) }
 {
@@ -64,7 +64,7 @@ pub(crate) fn shown_words(alloc: Global, matches: &ArgMatches<'_>) -> Result<Wor
     })
 }
 
-/// What the words ask for.
+/// Returns what the words ask for.
 fn settings(alloc: Global, words: &Words) -> Result<Settings, WordsFault>
     ensures { IfOk result (AsksForSettings words.now) }
 {

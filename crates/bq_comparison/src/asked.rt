@@ -57,7 +57,7 @@ pub enum ComparingFault {
 }
 
 impl ComparingFault {
-    /// The word that the fault refuses, and its option. `None` if the fault is not that of one word.
+    /// Returns the word that the fault refuses, and its option. `None` if the fault is not that of one word.
     pub fn refused<'a>(self, words: &'a StudyWords) -> Option<RefusedWord<'a>>
         ensures word { IfSome result (λ r. optional_word_text (comparing_word_refused words.now self) ≡ Some r.word.now) }
         ensures none { IfNone result (comparing_word_refused words.now self ≡ None) }
@@ -72,7 +72,8 @@ impl ComparingFault {
     }
 }
 
-/// What the words ask for, if they ask for several seeds or for something to compare with. Without `--seeds` it is one seed.
+/// Returns what the words ask for, if they ask for several seeds or for something to compare with. Without `--seeds` it is one
+/// seed.
 pub fn asked_comparison(
     alloc: Global,
     words: &StudyWords,
@@ -113,7 +114,7 @@ pub fn asked_comparison(
     }))
 }
 
-/// Whether words name a stretch of time.
+/// Returns whether words name a stretch of time.
 fn names_stretch(words: &Words) -> bool
     ensures { result ≡ names_stretch words.now }
 {
@@ -151,7 +152,7 @@ impl Comparing {
     }
 }
 
-/// A number of seeds.
+/// Reads a number of seeds, if the word is one.
 fn seeds_of(word: &str) -> Option<u16>
     ensures value { result ≡ seeds_in word.now }
     ensures bound { IfSome result (λ n. (1 ≤ n) × (n ≤ 1000)) }
@@ -164,7 +165,7 @@ fn seeds_of(word: &str) -> Option<u16>
     }
 }
 
-/// The form of a table, if it is one.
+/// Returns the form of a table that has this name, if there is one.
 fn table_form(form: FormName) -> Option<TableForm>
     ensures { result ≡ table_of form }
 {

@@ -6,7 +6,7 @@ use crate::difference::Difference;
 use crate::{FigureRow, PairedRow};
 use std::alloc::{AllocError, Global};
 
-/// Thousandths, with three decimals.
+/// Writes thousandths as a number with three decimals.
 pub(crate) fn decimal(alloc: Global, thousandths: u128) -> Result<String, AllocError>
     ensures { IfOk result (λ text. string_bytes text ≡ decimal_text thousandths) }
 {
@@ -15,7 +15,7 @@ pub(crate) fn decimal(alloc: Global, thousandths: u128) -> Result<String, AllocE
     format!(in alloc; "{whole}.{part:03}")
 }
 
-/// Thousandths, with three decimals, if there are any; else the other text.
+/// Writes thousandths as a number with three decimals, if there are any; else the other text.
 pub(crate) fn cell(
     alloc: Global,
     thousandths: Option<u128>,
@@ -29,7 +29,7 @@ pub(crate) fn cell(
     }
 }
 
-/// A difference with its sign, if there is one; otherwise another text.
+/// Writes a difference with its sign, if there is one; otherwise another text.
 pub(crate) fn signed(
     alloc: Global,
     difference: Option<Difference>,
@@ -46,7 +46,7 @@ pub(crate) fn signed(
     format!(in alloc; "{sign}{size}")
 }
 
-/// How many runs have the value of a row, if there is a row.
+/// Returns how many runs have the value of a row, if there is a row.
 pub(crate) fn runs_of(row: Option<FigureRow>) -> Option<u128>
     ensures { result ≡ option_map (λ r. r.runs) row }
 {
@@ -54,21 +54,21 @@ pub(crate) fn runs_of(row: Option<FigureRow>) -> Option<u128>
     Some(row.runs as u128)
 }
 
-/// The mean of a row, if there is a row and it has one.
+/// Returns the mean of a row, if there is a row and it has one.
 pub(crate) fn mean_of(row: Option<FigureRow>) -> Option<u128>
     ensures { result ≡ option_and_then (λ r. r.mean) row }
 {
     row?.mean
 }
 
-/// The deviation of a row, if there is a row and it has one.
+/// Returns the deviation of a row, if there is a row and it has one.
 pub(crate) fn deviation_of(row: Option<FigureRow>) -> Option<u128>
     ensures { result ≡ option_and_then (λ r. r.deviation) row }
 {
     row?.deviation
 }
 
-/// With how many seeds both sides have the value of a row, if there is a row.
+/// Returns the number of seeds with which both sides have the value of a row, if there is a row.
 pub(crate) fn difference_runs_of(row: Option<PairedRow>) -> Option<u128>
     ensures { result ≡ option_map (λ r. r.runs) row }
 {
@@ -76,14 +76,14 @@ pub(crate) fn difference_runs_of(row: Option<PairedRow>) -> Option<u128>
     Some(row.runs as u128)
 }
 
-/// The difference of a row, if there is a row and it has one.
+/// Returns the difference of a row, if there is a row and it has one.
 pub(crate) fn difference_of(row: Option<PairedRow>) -> Option<Difference>
     ensures { result ≡ option_and_then (λ r. r.difference) row }
 {
     row?.difference
 }
 
-/// The deviation of the differences of a row, if there is a row and it has one.
+/// Returns the deviation of the differences of a row, if there is a row and it has one.
 pub(crate) fn difference_deviation_of(row: Option<PairedRow>) -> Option<u128>
     ensures { result ≡ option_and_then (λ r. r.deviation) row }
 {

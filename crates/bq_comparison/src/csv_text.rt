@@ -11,7 +11,7 @@ use std::alloc::{AllocError, Global};
 const HEAD: &str =
     "of,name,figure,unit,runs,mean,deviation,against_runs,against_mean,against_deviation,difference,difference_deviation,difference_runs\n";
 
-/// One row for each figure. Times are in nanoseconds, and what is not there is left empty.
+/// Writes one row for each figure. Times are in nanoseconds, and what is not there is left empty.
 pub(crate) fn csv_text(
     alloc: Global,
     lines: &[FigureLine],
@@ -36,7 +36,7 @@ fn write_line(
     text.push_str(row.as_str())
 }
 
-/// The row of a figure, with its line end.
+/// Makes the row of a figure, with its line end.
 fn row(alloc: Global, line: &FigureLine, names: &[String]) -> Result<Vec<u8>, AllocError> {
     let mut writer = WriterBuilder::new().from_writer(Vec::new(alloc));
     write_label(alloc, &mut writer, line.ours.figure, names)?;
@@ -101,7 +101,7 @@ fn write_field(writer: &mut Writer<Vec<u8>>, field: &str) -> Result<(), AllocErr
     }
 }
 
-/// The bytes of a row whose fields are written.
+/// Ends a row whose fields are written, and returns its bytes.
 fn ended(mut writer: Writer<Vec<u8>>) -> Result<Vec<u8>, Error> {
     writer.end_record()?;
     match writer.into_inner() {

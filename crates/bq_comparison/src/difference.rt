@@ -9,7 +9,7 @@ pub enum Difference {
 }
 
 impl Difference {
-    /// How much more or less their mean is than ours.
+    /// Returns how much more or less their mean is than ours.
     pub fn of(ours: u128, theirs: u128) -> Difference
         ensures { IsDifference ours theirs result }
     {

@@ -21,7 +21,7 @@ pub struct FigureRow {
     pub deviation: Option<u128>,
 }
 
-/// What some runs of the same figures say of each figure.
+/// Returns what some runs of the same figures say of each figure.
 pub fn rows(
     alloc: Global,
     figures: &[Figure],
@@ -38,7 +38,7 @@ pub fn rows(
     Ok(rows)
 }
 
-/// What the numbers say of a figure.
+/// Returns what the numbers say of a figure.
 fn row_of(figure: Figure, numbers: &[u64]) -> FigureRow
     requires { length numbers.now ≤ MOST_NUMBERS }
     ensures { IsRow figure numbers.now result }
@@ -54,7 +54,7 @@ fn row_of(figure: Figure, numbers: &[u64]) -> FigureRow
     }
 }
 
-/// The numbers at a place in the runs that have one there.
+/// Returns the numbers at a place in the runs that have one there.
 fn numbers_at(alloc: Global, runs: &[RunFigures], place: usize) -> Result<Vec<u64>, AllocError>
     ensures value { IfOk result (λ v. v.items ≡ numbers_at place runs.now) }
     ensures few { IfOk result (λ v. length v.items ≤ length runs.now) }

@@ -27,7 +27,7 @@ pub struct Gatherer {
 }
 
 impl Gatherer {
-    /// A gatherer to which nothing has come.
+    /// Makes a gatherer to which nothing has come.
     pub fn new(alloc: Global) -> Gatherer
         ensures schedule { result.schedule ≡ None }
         ensures latencies { (task : ℕ) → latencies_of result.latencies task ≡ [] }

@@ -13,8 +13,8 @@ use std::alloc::{AllocError, Global};
 /// The version of what the object holds. It changes if a key goes or means something else.
 const SCHEMA: u64 = 1;
 
-/// One object: `schema`, and `figures`, an array with one object for each figure. Means, deviations and differences are whole
-/// thousandths of the unit. What is not there is null, and so is what does not fit 64 bits (a difference: 63).
+/// Writes one object: `schema`, and `figures`, an array with one object for each figure. Means, deviations and differences are
+/// whole thousandths of the unit. What is not there is null, and so is what does not fit 64 bits (a difference: 63).
 pub(crate) fn json_text(
     alloc: Global,
     lines: &[FigureLine],
@@ -32,7 +32,7 @@ pub(crate) fn json_text(
     Ok(text)
 }
 
-/// The object of a figure.
+/// Makes the object of a figure.
 fn object(alloc: Global, line: &FigureLine, names: &[String]) -> Result<Value, AllocError> {
     let mut object = Map::new(alloc);
     put_words(alloc, &mut object, line.ours.figure, names)?;
@@ -89,7 +89,7 @@ fn put_numbers(
     put(object, alloc, "difference_thousandths", difference)
 }
 
-/// A number that fits in 64 bits; null otherwise.
+/// Returns a number that fits in 64 bits; null otherwise.
 fn number(value: Option<u128>) -> Value {
     match value {
         Some(value) => match u64::try_from(value) {
@@ -100,7 +100,7 @@ fn number(value: Option<u128>) -> Value {
     }
 }
 
-/// A difference whose size fits in 63 bits; null otherwise.
+/// Returns a difference whose size fits in 63 bits; null otherwise.
 fn signed_number(difference: Option<Difference>) -> Value {
     let (is_more, size) = match difference {
         Some(Difference::More(size)) => (true, size),

@@ -5,7 +5,7 @@ ghost use Rattle.bq_comparison.specs.Labels.{is_time, name_of_figure, subject_te
 use crate::{Figure, HookFigure, LatencyFigure, ProcessorFigure, TaskFigure};
 use std::alloc::{AllocError, Global};
 
-/// What a figure is of: `task 3`, `cpu 0` or `cpu 0 place`.
+/// Says what a figure is of: `task 3`, `cpu 0` or `cpu 0 place`.
 pub(crate) fn subject(alloc: Global, figure: Figure) -> Result<String, AllocError>
     ensures { IfOk result (λ text. string_bytes text ≡ subject_text figure) }
 {
@@ -21,7 +21,7 @@ pub(crate) fn subject(alloc: Global, figure: Figure) -> Result<String, AllocErro
     }
 }
 
-/// The name of the task that a figure is of.
+/// Returns the name of the task that a figure is of.
 pub(crate) fn name<'a>(figure: Figure, names: &'a [String]) -> &'a str
     ensures { result.now ≡ name_of_figure figure names.now }
 {
@@ -35,7 +35,7 @@ pub(crate) fn name<'a>(figure: Figure, names: &'a [String]) -> &'a str
     }
 }
 
-/// The word for a figure, as the report has it.
+/// Returns the word for a figure, as the report has it.
 pub(crate) fn word(figure: Figure) -> &'static str {
     match figure {
         Figure::Task(_, figure) => task_word(figure),
@@ -50,7 +50,7 @@ pub(crate) fn word(figure: Figure) -> &'static str {
     }
 }
 
-/// The word for a figure of a task.
+/// Returns the word for a figure of a task.
 fn task_word(figure: TaskFigure) -> &'static str {
     match figure {
         TaskFigure::Ran => "cpu",
@@ -63,7 +63,7 @@ fn task_word(figure: TaskFigure) -> &'static str {
     }
 }
 
-/// The word for a figure of the latency of a task.
+/// Returns the word for a figure of the latency of a task.
 fn latency_word(figure: LatencyFigure) -> &'static str {
     match figure {
         LatencyFigure::P50 => "p50",
@@ -73,7 +73,7 @@ fn latency_word(figure: LatencyFigure) -> &'static str {
     }
 }
 
-/// Whether a figure is a time; otherwise it is a count.
+/// Returns whether a figure is a time; otherwise it is a count.
 pub(crate) fn is_time(figure: Figure) -> bool
     ensures { result ≡ is_time figure }
 {
@@ -90,7 +90,7 @@ pub(crate) fn is_time(figure: Figure) -> bool
     }
 }
 
-/// The unit of a figure: `ns`, or `1` of a count.
+/// Returns the unit of a figure: `ns`, or `1` of a count.
 pub(crate) fn unit(figure: Figure) -> &'static str
     ensures { result.now ≡ unit_of_figure figure }
 {

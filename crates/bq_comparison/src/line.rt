@@ -16,7 +16,8 @@ pub struct FigureLine {
 }
 
 impl FigureLine {
-    /// Whether the line is of a task or a processor in the window; a line of a hook also needs a mean other than 0 on one side.
+    /// Returns whether the line is of a task or a processor in the window; a line of a hook also needs a mean other than 0 on one
+    /// side.
     fn is_shown(&self, window: &Window) -> bool
         ensures { IsTrue result ↔ IsLineShown window.now self.now }
     {
@@ -31,7 +32,7 @@ impl FigureLine {
         }
     }
 
-    /// Whether the means of all sides that there are are 0.
+    /// Returns whether the mean of each side is 0.
     fn is_zero(&self) -> bool
         ensures { result ≡ is_zero self.now }
     {
@@ -42,7 +43,7 @@ impl FigureLine {
     }
 }
 
-/// Whether a mean is 0.
+/// Returns whether a mean is 0.
 fn is_nothing(mean: Option<u128>) -> bool
     ensures { result ≡ is_nothing mean }
 {
@@ -50,7 +51,7 @@ fn is_nothing(mean: Option<u128>) -> bool
 }
 
 impl Sides {
-    /// The row of the others at a place.
+    /// Returns the row of the others at a place.
     fn their(&self, place: usize) -> Option<FigureRow>
         ensures { result ≡ row_at self.now.theirs place }
     {
@@ -60,7 +61,7 @@ impl Sides {
         }
     }
 
-    /// What both sides say of the difference at a place.
+    /// Returns what both sides say of the difference at a place.
     fn paired(&self, place: usize) -> Option<PairedRow>
         ensures { result ≡ paired_at self.now.theirs place }
     {
@@ -71,7 +72,7 @@ impl Sides {
     }
 }
 
-/// The rows side by side, of those that are shown.
+/// Lists the rows that are shown, those of both sides side by side.
 pub fn lines(alloc: Global, sides: &Sides, window: &Window) -> Result<Vec<FigureLine>, AllocError>
     ensures { IfOk result (λ v. Selects (IsLineShown window.now) (rows_beside 0 sides.now.ours.items sides.now.theirs) v.items) }
 {

@@ -5,7 +5,7 @@ ghost use Rattle.bq_comparison.specs.Means.{AreTooGreatSums, IsDeviation, IsDevi
 /// The most numbers that are added up. The sum of as many numbers of 64 bits is below 2^80.
 pub const MOST_NUMBERS: usize = 65_536;
 
-/// The mean of 1 to 65,536 numbers in thousandths, rounded down.
+/// Returns the mean of 1 to 65,536 numbers in thousandths, rounded down.
 pub fn mean(numbers: &[u64]) -> u128
     requires some { 0 < length numbers.now }
     requires few { length numbers.now ≤ MOST_NUMBERS }
@@ -14,7 +14,7 @@ pub fn mean(numbers: &[u64]) -> u128
     mean_by_sum(numbers.len(), total(numbers))
 }
 
-/// The mean of numbers in thousandths, rounded down, given how many there are and their sum.
+/// Returns the mean of numbers in thousandths, rounded down, given how many there are and their sum.
 pub(crate) fn mean_by_sum(count: usize, total: u128) -> u128
     requires some { 0 < count }
     requires fits { total < 2 ^ 80 }
@@ -23,7 +23,7 @@ pub(crate) fn mean_by_sum(count: usize, total: u128) -> u128
     total * 1000 / count as u128
 }
 
-/// The sample's standard deviation of 2 to 65,536 numbers in thousandths, rounded down. None if the numbers are too
+/// Returns the sample's standard deviation of 2 to 65,536 numbers in thousandths, rounded down. None if the numbers are too
 /// great to be squared and added in 128 bits. n numbers always fit if each is below 2^54 / n; so 1,000 numbers fit if each is
 /// below 2^44.
 pub fn deviation(numbers: &[u64]) -> Option<u128>
@@ -35,8 +35,8 @@ pub fn deviation(numbers: &[u64]) -> Option<u128>
     deviation_by_sums(numbers.len(), squares(numbers)?, total(numbers))
 }
 
-/// The standard deviation of 2 to 65,536 numbers, given the sum of their squares and the size of their sum. None if these are too
-/// great to be multiplied in 128 bits.
+/// Returns the standard deviation of 2 to 65,536 numbers, given the sum of their squares and the size of their sum. None if these
+/// are too great to be multiplied in 128 bits.
 pub(crate) fn deviation_by_sums(count: usize, squared: u128, total: u128) -> Option<u128>
     requires some { 2 ≤ count }
     requires few { count ≤ MOST_NUMBERS }
@@ -49,7 +49,7 @@ pub(crate) fn deviation_by_sums(count: usize, squared: u128, total: u128) -> Opt
     Some(root(whole.saturating_sub(square), count * (count - 1)))
 }
 
-/// `count` times the sum of the squares; `None` if 10^6 times that does not fit 128 bits.
+/// Returns `count` times the sum of the squares; `None` if 10^6 times that does not fit 128 bits.
 fn whole(count: u128, squared: u128) -> Option<u128>
     ensures value { IfSome result (λ n. n ≡ count * squared) }
     ensures fits { IfSome result (λ n. n * 1000000 < 2 ^ 128) }
@@ -60,7 +60,7 @@ fn whole(count: u128, squared: u128) -> Option<u128>
     Some(whole)
 }
 
-/// The root of a ratio in thousandths, rounded down.
+/// Returns the root of a ratio in thousandths, rounded down.
 fn root(above: u128, below: u128) -> u128
     requires some { 0 < below }
     requires fits { above * 1000000 < 2 ^ 128 }
@@ -69,7 +69,7 @@ fn root(above: u128, below: u128) -> u128
     (above * 1_000_000 / below).isqrt()
 }
 
-/// The sum of up to 65,536 numbers.
+/// Returns the sum of up to 65,536 numbers.
 fn total(numbers: &[u64]) -> u128
     requires { length numbers.now ≤ MOST_NUMBERS }
     ensures value { result ≡ sum numbers.now }
@@ -82,7 +82,7 @@ fn total(numbers: &[u64]) -> u128
     total
 }
 
-/// The sum of their squares, if it fits.
+/// Returns the sum of the squares of some numbers, if it fits 128 bits.
 fn squares(numbers: &[u64]) -> Option<u128>
     ensures value { IfSome result (λ n. n ≡ squares numbers.now) }
     ensures none { IfNone result (2 ^ 128 ≤ squares numbers.now) }

@@ -7,7 +7,7 @@ use crate::RunFigures;
 use crate::pairs::{Pair, PairedRow, paired_row};
 use std::alloc::{AllocError, Global};
 
-/// What up to 65,536 runs and as many others with the same seeds say of the difference of each of this many figures.
+/// Returns what up to 65,536 runs and as many others with the same seeds say of the difference of each of this many figures.
 pub fn paired_rows(
     alloc: Global,
     count: usize,
@@ -26,7 +26,7 @@ pub fn paired_rows(
     Ok(rows)
 }
 
-/// The pairs at a place, of the seeds with which both runs have a number there.
+/// Returns the pairs at a place, of the seeds with which both runs have a number there.
 fn pairs_at(
     alloc: Global,
     ours: &[RunFigures],
@@ -47,7 +47,7 @@ fn pairs_at(
     Ok(pairs)
 }
 
-/// Two numbers, if both are there.
+/// Pairs two numbers, if both are there.
 fn pair_of(ours: Option<u64>, theirs: Option<u64>) -> Option<Pair>
     ensures { result ≡ pair_of ours theirs }
 {

@@ -32,7 +32,7 @@ struct Sums {
     theirs: u128,
 }
 
-/// What some pairs say.
+/// Returns what some pairs say of the difference of a figure.
 pub(crate) fn paired_row(pairs: &[Pair]) -> PairedRow
     requires { length pairs.now ≤ MOST_NUMBERS }
     ensures { IsPairedRow pairs.now result }
@@ -55,7 +55,7 @@ pub(crate) fn paired_row(pairs: &[Pair]) -> PairedRow
     }
 }
 
-/// The difference of the means of 1 to 65,536 pairs, in thousandths.
+/// Returns the difference of the means of 1 to 65,536 pairs, in thousandths.
 fn difference(pairs: &[Pair]) -> Difference
     requires some { 0 < length pairs.now }
     requires few { length pairs.now ≤ MOST_NUMBERS }
@@ -68,7 +68,7 @@ fn difference(pairs: &[Pair]) -> Difference
     Difference::of(ours, theirs)
 }
 
-/// The sample's standard deviation of the differences of 2 to 65,536 pairs in thousandths, rounded down. None if the
+/// Returns the sample's standard deviation of the differences of 2 to 65,536 pairs in thousandths, rounded down. None if the
 /// differences are too great to be squared and added in 128 bits. n differences always fit if each is below 2^54 / n.
 pub fn paired_deviation(pairs: &[Pair]) -> Option<u128>
     requires some { 2 ≤ length pairs.now }
@@ -81,7 +81,7 @@ pub fn paired_deviation(pairs: &[Pair]) -> Option<u128>
     deviation_by_sums(pairs.len(), squared_differences(pairs)?, total)
 }
 
-/// The sums of up to 65,536 pairs.
+/// Returns the sums of up to 65,536 pairs.
 fn sums_of(pairs: &[Pair]) -> Sums
     requires { length pairs.now ≤ MOST_NUMBERS }
     ensures ours { result.ours ≡ our_sum pairs.now }
@@ -97,7 +97,7 @@ fn sums_of(pairs: &[Pair]) -> Sums
     sums
 }
 
-/// The sum of the squares of the differences, if it fits.
+/// Returns the sum of the squares of the differences, if it fits 128 bits.
 fn squared_differences(pairs: &[Pair]) -> Option<u128>
     ensures value { IfSome result (λ n. n ≡ squared_differences pairs.now) }
     ensures none { IfNone result (2 ^ 128 ≤ squared_differences pairs.now) }

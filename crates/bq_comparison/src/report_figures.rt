@@ -13,7 +13,7 @@ pub struct MachineSize {
     pub processors: u8,
 }
 
-/// The figures of each task, then those of each processor and its hooks.
+/// Returns the figures of each task, then those of each processor and its hooks.
 pub fn all_figures(alloc: Global, size: MachineSize) -> Result<Vec<Figure>, AllocError>
     ensures { IfOk result (λ v. v.items ≡ figures_of_report size) }
 {
@@ -27,7 +27,7 @@ pub fn all_figures(alloc: Global, size: MachineSize) -> Result<Vec<Figure>, Allo
     Ok(figures)
 }
 
-/// The figures of a task, in the order of the report.
+/// Returns the figures of a task, in the order of the report.
 fn task_figures(task: u16) -> [Figure; 12]
     ensures { result ≡ figures_of_task task }
 {
@@ -47,7 +47,7 @@ fn task_figures(task: u16) -> [Figure; 12]
     ]
 }
 
-/// The figures of a processor and of its hooks, in the order of the report.
+/// Returns the figures of a processor and of its hooks, in the order of the report.
 fn processor_figures(processor: u8) -> [Figure; 12]
     ensures { result ≡ figures_of_processor processor }
 {

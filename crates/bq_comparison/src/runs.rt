@@ -21,7 +21,7 @@ pub struct RunFigures {
     pub events: u64,
 }
 
-/// The values that figures have in a schedule of this many events, in which tasks had these latencies. It sorts them.
+/// Returns the values that figures have in a schedule of this many events, in which tasks had these latencies. Sorts the latencies.
 pub fn run_of(
     alloc: Global,
     schedule: &Schedule,
@@ -41,7 +41,7 @@ pub fn run_of(
 }
 
 impl RunFigures {
-    /// The number at a place among the figures, if there is one.
+    /// Returns the number at a place among the figures, if there is one.
     pub(crate) fn number_at(&self, place: usize) -> Option<u64>
         ensures { result ≡ figure_value_at place self.now }
     {

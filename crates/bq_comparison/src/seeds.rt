@@ -73,7 +73,7 @@ pub fn summary<T: Threads + Sync>(
     Ok(SeedsSummary { runs, rows })
 }
 
-/// The runs with this many seeds, from the workload's own on.
+/// Does the runs with this many seeds, from the workload's own on.
 fn runs<T: Threads + Sync>(
     threads: &T,
     alloc: Global,
@@ -116,7 +116,7 @@ fn show_runs(shown: &RunsShown<'_>, runs: &[RunFigures]) {
     }
 }
 
-/// How many runs are done at once: as many as there are processors available.
+/// Returns how many runs are done at once: as many as there are processors available.
 fn runs_at_once<T: Threads + Sync>(threads: &T) -> usize
     ensures { 1 ≤ result }
 {
@@ -126,7 +126,7 @@ fn runs_at_once<T: Threads + Sync>(threads: &T) -> usize
     }
 }
 
-/// This many runs at once, with seeds from this one on, each on a thread of its own.
+/// Does this many runs at once, with seeds from this one on, each on a thread of its own.
 fn at_once<T: Threads + Sync>(
     threads: &T,
     alloc: Global,
@@ -146,7 +146,7 @@ fn at_once<T: Threads + Sync>(
     )
 }
 
-/// The run whose seed is this many above the first.
+/// Does the run whose seed is this many above the first.
 fn nth_run(
     alloc: Global,
     experiment: &Experiment<'_>,
@@ -173,7 +173,7 @@ fn add_all(runs: &mut Vec<RunFigures>, results: Results) -> Result<(), SeedsFaul
     Ok(())
 }
 
-/// One run, with this seed in place of the workload's own.
+/// Does one run, with this seed in place of the workload's own.
 fn run(alloc: Global, experiment: &Experiment<'_>, seed: u64) -> Result<RunFigures, SeedsFault>
     ensures run { IfOk result (IsRunWithSeed experiment.now seed) }
     ensures fault { IfErr result (IsNoRunWithSeed experiment.now seed) }

@@ -101,7 +101,7 @@ fn other_side<T: Threads + Sync>(
     Ok(OtherSide { rows, paired })
 }
 
-/// Where the progress of a side is shown: how many sides come before it, and how many there are.
+/// Returns where the progress of a side is shown: how many sides come before it, and how many there are.
 fn shown<'a>(plan: &RunPlan<'a>, before: usize, sides: usize) -> RunsShown<'a> {
     let seeds = usize::from(plan.seeds);
     RunsShown {
@@ -111,7 +111,7 @@ fn shown<'a>(plan: &RunPlan<'a>, before: usize, sides: usize) -> RunsShown<'a> {
     }
 }
 
-/// How many tasks a workload has, as far as 16 bits count, and how many processors.
+/// Counts the tasks of a workload, as far as 16 bits count, and its processors.
 pub fn size_of_machine(workload: &Workload) -> MachineSize
     ensures { result ≡ size_of_machine workload.now }
 {

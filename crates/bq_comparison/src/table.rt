@@ -16,7 +16,7 @@ const WIDE_HEAD: &str = concat!(
     "of             name            figure        unit          mean     deviation       against     deviation    difference     deviation\n",
 );
 
-/// One line for each figure, below the head of a table with others or without. Times are in microseconds.
+/// Writes one line for each figure, below the head of a table with others or without. Times are in microseconds.
 pub(crate) fn table_text(
     alloc: Global,
     has_others: bool,
@@ -33,7 +33,7 @@ pub(crate) fn table_text(
     Ok(text)
 }
 
-/// What the figure is of, the name of its task, its word and the unit.
+/// Writes what the figure is of, the name of its task, its word and the unit.
 fn write_label(
     alloc: Global,
     text: &mut String,
@@ -48,7 +48,7 @@ fn write_label(
     write!(text, "{subject:<14} {name:<15.15} {word:<13} {unit:<4}")
 }
 
-/// Its means and deviations, and those of the differences.
+/// Writes the means and the deviations of a line, and those of the differences.
 fn write_cells(alloc: Global, text: &mut String, line: &FigureLine) -> Result<(), AllocError> {
     let is_time = is_time(line.ours.figure);
     write_cell(alloc, text, is_time, line.ours.mean)?;
@@ -82,7 +82,7 @@ fn write_padded(text: &mut String, cell: &str) -> Result<(), AllocError> {
     write!(text, " {cell:>13}")
 }
 
-/// The difference in thousandths of the unit that it is shown in.
+/// Returns the difference in thousandths of the unit that it is shown in.
 fn shown_difference(is_time: bool, difference: Option<Difference>) -> Option<Difference> {
     match difference {
         Some(Difference::More(size)) => Some(Difference::More(in_unit(is_time, size))),
@@ -91,7 +91,7 @@ fn shown_difference(is_time: bool, difference: Option<Difference>) -> Option<Dif
     }
 }
 
-/// A value in thousandths of the unit that it is shown in. Of a time that is its nanoseconds, thousandths of a microsecond.
+/// Returns a value in thousandths of the unit that it is shown in. Of a time that is its nanoseconds, thousandths of a microsecond.
 fn in_unit(is_time: bool, value: u128) -> u128 {
     if is_time { value / 1000 } else { value }
 }

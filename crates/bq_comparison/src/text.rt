@@ -10,8 +10,8 @@ use bq_experiment::{shown_name, task_names};
 use bq_workload::Workload;
 use std::alloc::{AllocError, Global};
 
-/// What is shown of the two sides of a workload's comparison, as it is asked for. A table has the head of both sides exactly when
-/// there are both, even if no line is left. Tasks have the names that the forms of one run show.
+/// Writes what is shown of the two sides of a workload's comparison, as it is asked for. A table has the head of both sides exactly
+/// when there are both, even if no line is left. Tasks have the names that the forms of one run show.
 pub fn comparison_text(
     alloc: Global,
     workload: &Workload,
@@ -29,7 +29,7 @@ pub fn comparison_text(
     }
 }
 
-/// The names of the tasks, as forms show them.
+/// Returns the names of the tasks, as forms show them.
 fn shown_names(alloc: Global, workload: &Workload) -> Result<Vec<String>, AllocError> {
     let mut names = Vec::new(alloc);
     for name in &task_names(alloc, workload)? {

@@ -9,7 +9,7 @@ use bq_report::tables::nanoseconds;
 use bq_report::{still_waiting, waited_in_all};
 use bq_schedule::{Percentiles, Schedule, WakeLatencies};
 
-/// The value of a figure in a schedule in which tasks had these latencies. None for a latency of a task that had none,
+/// Returns the value of a figure in a schedule in which tasks had these latencies. None for a latency of a task that had none,
 /// and for the wait of a task that has run since its last wake. If the figure is a latency of a task, the call sorts the task's
 /// latencies.
 pub fn value_of(schedule: &Schedule, latencies: &mut WakeLatencies, figure: Figure) -> Option<u64>
@@ -27,7 +27,7 @@ pub fn value_of(schedule: &Schedule, latencies: &mut WakeLatencies, figure: Figu
     }
 }
 
-/// The number of a figure of a task.
+/// Returns the number of a figure of a task.
 fn task_value(schedule: &Schedule, task: u16, figure: TaskFigure) -> u64
     ensures { result ≡ task_value schedule.now task figure }
 {
@@ -43,7 +43,7 @@ fn task_value(schedule: &Schedule, task: u16, figure: TaskFigure) -> u64
     }
 }
 
-/// The number of a figure of a processor.
+/// Returns the number of a figure of a processor.
 fn processor_value(schedule: &Schedule, processor: u8, figure: ProcessorFigure) -> u64
     ensures { result ≡ processor_value schedule.now processor figure }
 {
@@ -55,7 +55,7 @@ fn processor_value(schedule: &Schedule, processor: u8, figure: ProcessorFigure) 
     }
 }
 
-/// The number of a figure of a hook at a processor.
+/// Returns the number of a figure of a hook at a processor.
 fn hook_value(schedule: &Schedule, processor: u8, hook: Hook, figure: HookFigure) -> u64
     ensures { result ≡ hook_value schedule.now processor hook figure }
 {
@@ -72,7 +72,7 @@ fn hook_value(schedule: &Schedule, processor: u8, hook: Hook, figure: HookFigure
     }
 }
 
-/// A figure of a task's latencies.
+/// Returns a figure of a task's latencies.
 fn latency_value(latencies: &mut WakeLatencies, task: u16, figure: LatencyFigure) -> Option<u64>
     ensures value { IsPercentile figure (latencies_of latencies.old task) result }
     ensures kept { AreReordered latencies.old latencies.new }
@@ -80,7 +80,7 @@ fn latency_value(latencies: &mut WakeLatencies, task: u16, figure: LatencyFigure
     percentile_value(latencies.percentiles(task), figure)
 }
 
-/// The percentile that is named, of these.
+/// Returns the percentile that is named, of these.
 fn percentile_value(percentiles: Percentiles, figure: LatencyFigure) -> Option<u64>
     ensures { result ≡ percentile_value percentiles figure }
 {

@@ -61,7 +61,7 @@ pub enum AskedFault {
 }
 
 impl AskedFault {
-    /// The word that the fault refuses, and its option. `None` if the fault is not that of one word.
+    /// Returns the word that the fault refuses, and its option. `None` if the fault is not that of one word.
     pub fn refused<'a>(self, words: &'a StudyWords) -> Option<RefusedWord<'a>>
         ensures word { IfSome result (λ r. optional_word_text (asked_word_refused words.now self) ≡ Some r.word.now) }
         ensures none { IfNone result (asked_word_refused words.now self ≡ None) }
@@ -85,7 +85,7 @@ impl AskedFault {
 }
 
 impl ShownAs {
-    /// The form that the words ask for: a report, unless they say otherwise.
+    /// Returns the form that the words ask for: a report, unless they say otherwise.
     pub fn of(alloc: Global, words: &StudyWords) -> Result<ShownAs, AskedFault>
         ensures asked { IfOk result (AskToShow words.now) }
         ensures fault { IfErr result (IsNotShown words.now) }
@@ -104,7 +104,7 @@ impl ShownAs {
     }
 }
 
-/// Whether a form is `trace`.
+/// Returns whether a form is `trace`.
 fn names_trace(form: &Option<String>) -> bool
     ensures { IsTrue result ↔ (option_bytes form.now ≡ Some (codes "trace")) }
 {
@@ -114,7 +114,7 @@ fn names_trace(form: &Option<String>) -> bool
     }
 }
 
-/// Whether the words choose what is shown, and how: a stretch of time, processors, tasks, a width, a theme or a title.
+/// Returns whether the words choose what is shown, and how: a stretch of time, processors, tasks, a width, a theme or a title.
 fn chooses_part(words: &Words) -> bool
     ensures { result ≡ chooses_part words.now }
 {
@@ -127,7 +127,7 @@ fn chooses_part(words: &Words) -> bool
         || words.title.is_some()
 }
 
-/// What the words put in the place of a workload's own machine.
+/// Returns what the words put in the place of a workload's own machine.
 pub fn asked_changes(words: &StudyWords) -> Result<Changes, AskedFault>
     ensures asked { IfOk result (AskForChanges words.now.machine) }
     ensures fault { IfErr result (IsNoChange words.now.machine) }
@@ -145,7 +145,7 @@ pub fn asked_changes(words: &StudyWords) -> Result<Changes, AskedFault>
     })
 }
 
-/// The discipline that a word asks for, if there is a word.
+/// Returns the discipline that a word asks for, if there is a word.
 fn discipline_asked(word: &Option<String>) -> Option<Option<DisciplineName>>
     ensures { result ≡ change_asked discipline_named word.now }
 {
@@ -155,7 +155,7 @@ fn discipline_asked(word: &Option<String>) -> Option<Option<DisciplineName>>
     }
 }
 
-/// The number of processors that a word asks for, if there is a word.
+/// Returns the number of processors that a word asks for, if there is a word.
 fn size_asked(word: &Option<String>) -> Option<Option<ProcessorCount>>
     ensures { result ≡ change_asked size_in_word word.now }
 {
@@ -165,7 +165,7 @@ fn size_asked(word: &Option<String>) -> Option<Option<ProcessorCount>>
     }
 }
 
-/// The duration that a word asks for, if there is a word.
+/// Returns the duration that a word asks for, if there is a word.
 fn time_asked(word: &Option<String>) -> Option<Option<u64>>
     ensures { result ≡ change_asked simulable_time word.now }
 {
@@ -175,7 +175,7 @@ fn time_asked(word: &Option<String>) -> Option<Option<u64>>
     }
 }
 
-/// The seed that a word asks for, if there is a word.
+/// Returns the seed that a word asks for, if there is a word.
 fn seed_asked(word: &Option<String>) -> Option<Option<u64>>
     ensures { result ≡ change_asked decimal_of word.now }
 {
@@ -185,7 +185,7 @@ fn seed_asked(word: &Option<String>) -> Option<Option<u64>>
     }
 }
 
-/// A duration, with its unit, that can be simulated.
+/// Reads a duration, with its unit, if it can be simulated.
 fn time(word: &[u8]) -> Option<u64>
     ensures { result ≡ simulable_time word.now }
 {

@@ -18,7 +18,7 @@ pub struct Limited<S> {
 }
 
 impl<S> Limited<S> {
-    /// A sink that passes on at most this many machine events.
+    /// Makes a sink that passes on at most this many machine events.
     pub fn new(sink: S, event_limit: u64) -> Limited<S>
         ensures sink { result.sink ≡ sink }
         ensures left { result.left ≡ event_limit }

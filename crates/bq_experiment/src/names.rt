@@ -12,7 +12,7 @@ use bq_trace::{Sink, TraceEvent};
 use bq_workload::{TaskKind, Workload};
 use std::alloc::{AllocError, Global};
 
-/// The name of each task. The tasks of a kind are numbered from 0 if it has several.
+/// Returns the name of each task. The tasks of a kind are numbered from 0 if it has several.
 pub fn task_names(alloc: Global, workload: &Workload) -> Result<Vec<String>, AllocError>
     ensures { IfOk result (λ names. map string_bytes names.items ≡ names_of workload.now.tasks.items) }
 {
@@ -33,7 +33,7 @@ fn add_names(alloc: Global, kind: &TaskKind, names: &mut Vec<String>) -> Result<
     Ok(())
 }
 
-/// The name of a task, by its number among the tasks of its kind.
+/// Returns the name of a task, by its number among the tasks of its kind.
 fn task_name(alloc: Global, kind: &TaskKind, number: u16) -> Result<String, AllocError>
     ensures { IfOk result (λ name. string_bytes name ≡ name_of_task kind.now number) }
 {
@@ -83,7 +83,7 @@ pub(crate) fn show_names(
     Ok(comments.len() as u64)
 }
 
-/// The names of a workload's tasks, as a screen has them of one run.
+/// Returns the names of a workload's tasks, as a screen has them of one run.
 pub fn workload_names(alloc: Global, workload: &Workload) -> Result<Names, AllocError>
     ensures { IfOk result (AreNamesOf workload.now) }
 {
@@ -95,7 +95,7 @@ pub fn workload_names(alloc: Global, workload: &Workload) -> Result<Names, Alloc
     Ok(names)
 }
 
-/// The comments that name the tasks to a viewer, one for each task.
+/// Returns the comments that name the tasks to a viewer, one for each task.
 fn shown_comments(alloc: Global, workload: &Workload) -> Result<Vec<String>, AllocError>
     ensures { IfOk result (λ comments. map string_bytes comments.items ≡ shown_comments workload.now) }
 {
@@ -109,7 +109,7 @@ fn shown_comments(alloc: Global, workload: &Workload) -> Result<Vec<String>, All
     Ok(comments)
 }
 
-/// The name as a form shows it: a control character becomes `?`.
+/// Returns the name as a form shows it: a control character becomes `?`.
 pub fn shown_name(alloc: Global, name: &str) -> Result<String, AllocError>
     ensures { IfOk result (λ text. string_bytes text ≡ shown_name name.now) }
 {
@@ -120,7 +120,7 @@ pub fn shown_name(alloc: Global, name: &str) -> Result<String, AllocError>
     Ok(text)
 }
 
-/// The name as a line of a trace can have it: a character that is no printable ASCII becomes `?`.
+/// Returns the name as a line of a trace can have it: a character that is no printable ASCII becomes `?`.
 pub fn plain(alloc: Global, name: &str) -> Result<String, AllocError>
     ensures { IfOk result (λ text. string_bytes text ≡ plain_name name.now) }
 {
@@ -131,7 +131,7 @@ pub fn plain(alloc: Global, name: &str) -> Result<String, AllocError>
     Ok(text)
 }
 
-/// The letter, or `?` in its place if it is neither a visible letter of ASCII nor a blank.
+/// Returns the letter, or `?` in its place if it is neither a visible letter of ASCII nor a blank.
 fn plain_letter(letter: char) -> char
     ensures ascii { result < 128 }
     ensures value { result ≡ plain_of letter }

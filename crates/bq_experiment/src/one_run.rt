@@ -81,7 +81,7 @@ pub fn run_as<W: Write + Drop, E: Write + Drop>(
     }
 }
 
-/// The sink of a run: it writes what comes, and has enough after `event_limit` events.
+/// Makes the sink of a run: it writes what comes, and has enough after `event_limit` events.
 fn sink_of_run<'a, S, W, E>(
     workload: &Workload,
     sink: S,
@@ -176,7 +176,7 @@ fn simulate_into<S: Sink + Enough>(
     Ok(())
 }
 
-/// The fault of a run, by the fault of its simulation. If the run was cut off, what has come is written first.
+/// Returns the fault of a run, by the fault of its simulation. If the run was cut off, what has come is written first.
 fn write_rest<S: Texts, W: Write, E: Write>(
     run: &mut RunSink<'_, S, W, E>,
     fault: SimulateFault,

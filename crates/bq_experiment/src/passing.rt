@@ -26,7 +26,7 @@ pub struct Passing<'a, S, W, E> {
 }
 
 impl<'a, S, W, E> Passing<'a, S, W, E> {
-    /// A sink that has written nothing yet.
+    /// Makes a sink that has written nothing yet.
     pub fn new(sink: S, output: W, errors: E, progress: RunProgress<'a>) -> Passing<'a, S, W, E>
         ensures sink { result.sink ≡ sink }
         ensures output { counted_inner result.output ≡ output }
@@ -42,7 +42,7 @@ impl<'a, S, W, E> Passing<'a, S, W, E> {
 }
 
 impl<S: Drop, W, E: Drop> Passing<'_, S, W, E> {
-    /// The writer of the text.
+    /// Returns the writer of the text.
     pub fn into_output(self) -> Counted<W>
         ensures { result ≡ self.entry.output }
     {

@@ -53,7 +53,7 @@ impl Model for Policies {
 }
 
 impl Policies {
-    /// There is no policy at any hook yet.
+    /// Begins with no policy at any hook.
     pub fn new(alloc: Global) -> Policies
         ensures loaded { result.loaded ≡ [] }
         ensures images { result.images ≡ [] }
@@ -64,7 +64,7 @@ impl Policies {
         }
     }
 
-    /// The policies. Each is that of the image at its hook.
+    /// Returns the policies. Each is that of the image at its hook.
     pub fn loaded(&self) -> &[Policy]
         ensures value { result.now ≡ self.now.loaded }
         ensures of_images { AreOfTheirImages self.now }
@@ -129,7 +129,7 @@ impl Policies {
         Ok(())
     }
 
-    /// The image at a hook.
+    /// Returns the image at a hook.
     pub fn image_at(&self, hook: Hook) -> Option<&[u8]>
         ensures { option_map (λ (b : Bor (List ℕ)). b.now) result ≡ image_for self.now.images hook }
     {
@@ -141,7 +141,7 @@ impl Policies {
         None
     }
 
-    /// The images at all hooks.
+    /// Returns the images at all hooks.
     pub fn images(&self) -> Images<'_>
         ensures { image_at result ≡ image_for self.now.images }
     {
@@ -175,7 +175,7 @@ impl<T: Drop> From<AllocFailed<T>> for AttachFault {
     }
 }
 
-/// Why the file is no policy for the hook, in words.
+/// Says why the file is no policy for the hook, in words.
 fn reported(alloc: Global, file: &[u8], fault: PolicyFault) -> AttachFault
     ensures { IsFaultOfFile fault result }
 {
@@ -191,7 +191,7 @@ fn reported(alloc: Global, file: &[u8], fault: PolicyFault) -> AttachFault
     }
 }
 
-/// The policy of an image.
+/// Loads the policy of an image.
 fn policy_of(alloc: Global, image: &[u8]) -> Result<Policy, AttachFault>
     ensures of { IfOk result (IsLoadedFromImage (Some image.now)) }
     ensures reported { IfErr result (IsFaultOfImage image.now) }

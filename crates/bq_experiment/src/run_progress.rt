@@ -17,7 +17,7 @@ pub struct RunProgress<'a> {
 }
 
 impl<'a> RunProgress<'a> {
-    /// The progress of a run of this workload, of which no event has come.
+    /// Begins the progress of a run of this workload, of which no event has come.
     pub(crate) fn new(workload: &Workload, progress: &'a ProgressLine<'a>) -> RunProgress<'a> {
         RunProgress {
             progress,
@@ -38,13 +38,13 @@ impl<'a> RunProgress<'a> {
         }
     }
 
-    /// How much of its time has passed, in percent.
+    /// Returns how much of its time has passed, in percent.
     fn percent(&self) -> u64 {
         self.now.saturating_mul(100) / self.duration.max(1)
     }
 }
 
-/// The time of an event, if it has one.
+/// Returns the time of an event, if it has one.
 fn time_of(event: &Event) -> Option<u64> {
     match event {
         Event::EndWake { now, .. }

@@ -12,11 +12,11 @@ pub trait Texts {
     /// What clearing leaves.
     ghost clears: { Self → Self → Type 0 };
 
-    /// The text since it was cleared last.
+    /// Returns the text since it was cleared last.
     fn text(&self) -> &str
         ensures { result.now ≡ pending self.now };
 
-    /// The notes since they were cleared last.
+    /// Returns the notes since they were cleared last.
     fn notes(&self) -> &str;
 
     /// Clears the text and the notes.

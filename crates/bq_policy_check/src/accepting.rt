@@ -9,7 +9,7 @@ use bq_explain::judge;
 use bq_policy_file::{PolicyFault, read_policy};
 use std::alloc::{AllocError, Global};
 
-/// The bytes of the image of the policy whose file has these bytes, if `check` with these words accepts it; None otherwise.
+/// Returns the bytes of the image of the policy whose file has these bytes, if `check` with these words accepts it; None otherwise.
 pub fn accepted_image(
     alloc: Global,
     words: &CheckWords,
@@ -24,8 +24,8 @@ pub fn accepted_image(
     }
 }
 
-/// The bytes of the image of the policy in these bytes, if it is accepted under the terms: what the words say beside the file, and
-/// their limits. None if it is not.
+/// Returns the bytes of the image of the policy in these bytes, if it is accepted under the terms: what the words say beside the
+/// file, and their limits. None if it is not.
 fn image_under(alloc: Global, terms: &Terms, bytes: &[u8]) -> Result<Option<Vec<u8>>, AllocError>
     ensures { IfOk result (IsFoundUnder bytes.now terms.now.head terms.now.limits) }
 {

@@ -16,7 +16,7 @@ pub struct AsmRefusal {
     pub reason: String,
 }
 
-/// The refusal of the options of `asm`, if they contradict the marks of the text; `None` if they do not.
+/// Returns the refusal of the options of `asm`, if they contradict the marks of the text; `None` if they do not.
 pub fn asm_refusal(
     alloc: Global,
     options: &Options,
@@ -30,7 +30,7 @@ pub fn asm_refusal(
     }
 }
 
-/// Why the options are refused, given what the marks of the text say; `None` if they agree.
+/// Returns why the options are refused, given what the marks of the text say; `None` if they agree.
 fn refusal_beside(
     alloc: Global,
     given: &Head,
@@ -49,7 +49,7 @@ fn refusal_beside(
     }
 }
 
-/// What the options say of the image, if they ask for one. A `--maps` that names no maps is refused later, by `asm` itself.
+/// Returns what the options say of the image, if they ask for one. A `--maps` that names no maps is refused later, by `asm` itself.
 #[tactic(auto, using(crate::proofs::DifferenceLemmas::no_image, crate::proofs::DifferenceLemmas::no_maps))]
 pub(crate) fn head_of(alloc: Global, options: &Options) -> Result<Option<Head>, AllocError>
     ensures { IfOk result (λ stated. MatchOption stated ((h : HeadValue) → ¬ GivesImage options.now h) (GivesImage options.now)) }
@@ -74,7 +74,7 @@ pub(crate) fn head_of(alloc: Global, options: &Options) -> Result<Option<Head>, 
     }
 }
 
-/// The first mark of a text from which the words differ, if there is one.
+/// Returns the first mark of a text from which the words differ, if there is one.
 fn difference(alloc: Global, given: &Head, text: &[u8]) -> Result<Option<Key>, AllocError>
     ensures { IfOk result (IsDifferingKey text.now given.now) }
 {
@@ -89,7 +89,7 @@ fn difference(alloc: Global, given: &Head, text: &[u8]) -> Result<Option<Key>, A
     }
 }
 
-/// The mark that the words contradict, if that is the fault.
+/// Returns the mark that the words contradict, if that is the fault.
 fn differing(fault: PolicyFault) -> Option<Key>
     ensures { result ≡ differing fault }
 {

@@ -8,7 +8,7 @@ use bq_hooks::Version;
 use bq_policy_file::{FileKind, Head, Options, PolicyFault, PolicySource, kind_of, read_policy};
 use std::alloc::{AllocError, Global};
 
-/// Lines on what the marks of a text say and its image lacks, since the options leave it out; or on the first line that
+/// Writes lines on what the marks of a text say and its image lacks, since the options leave it out; or on the first line that
 /// is no mark. Empty if there is nothing to say.
 ///
 /// ```text
@@ -23,7 +23,7 @@ pub fn asm_note(alloc: Global, options: &Options, text: &[u8]) -> Result<String,
     }
 }
 
-/// The lines of a text, beside what the options say.
+/// Writes the note on a text, given what the options say; empty if there is nothing to note.
 fn note_beside(alloc: Global, given: &Head, text: &[u8]) -> Result<String, AllocError>
     ensures { IfOk result (λ note. IsNoteBeside text.now given.now (string_bytes note)) }
 {
@@ -38,7 +38,7 @@ fn note_beside(alloc: Global, given: &Head, text: &[u8]) -> Result<String, Alloc
     }
 }
 
-/// The note on the line that is no mark, if that is the fault.
+/// Writes the note on the line that is no mark, if that is the fault.
 fn head_note(alloc: Global, text: &[u8], fault: PolicyFault) -> Result<String, AllocError>
     ensures { IfOk result (λ note. NotesHead fault (string_bytes note)) }
 {
@@ -58,7 +58,7 @@ fn head_note(alloc: Global, text: &[u8], fault: PolicyFault) -> Result<String, A
     }
 }
 
-/// The lines on what the options leave out and the policy's text says.
+/// Writes the lines on what the options leave out and the policy's text says.
 fn left_text(alloc: Global, given: &Head, policy: &PolicySource) -> Result<String, AllocError>
     ensures { IfOk result (λ note. string_bytes note ≡ left_out_lines given.now policy.now) }
 {
@@ -76,14 +76,14 @@ fn left_text(alloc: Global, given: &Head, policy: &PolicySource) -> Result<Strin
     Ok(note)
 }
 
-/// Whether the text has maps, and the options none.
+/// Returns whether the text has maps, and the options none.
 fn leaves_maps(given: &Head, policy: &PolicySource) -> bool
     ensures { result ≡ leaves_maps given.now policy.now }
 {
     given.maps.is_none() && !policy.form.shapes.is_empty()
 }
 
-/// Whether the text has the second version, and the options none.
+/// Returns whether the text has the second version, and the options none.
 fn leaves_format(given: &Head, policy: &PolicySource) -> bool
     ensures { result ≡ leaves_format given.now policy.now }
 {

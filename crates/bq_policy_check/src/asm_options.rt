@@ -6,7 +6,7 @@ use crate::maps_fault_text::maps_fault_text;
 use bq_policy_file::{Options, OptionsFault};
 use std::alloc::{AllocError, Global};
 
-/// One line on what is wrong with the options of `asm`, without its end; None if they ask for a form.
+/// Writes one line on what is wrong with the options of `asm`, without its end; None if they ask for a form.
 ///
 /// ```text
 /// --maps: part 1 "7:2": the size of a value is 8 to 256, a multiple of 8 (got 7)
@@ -25,7 +25,7 @@ pub fn options_complaint(alloc: Global, options: &Options) -> Result<Option<Stri
     }
 }
 
-/// What is wrong with the maps of options that `asm` refuses for them.
+/// Says what is wrong with the maps of options that `asm` refuses for them.
 fn maps_complaint(alloc: Global, options: &Options) -> Result<String, AllocError> {
     match (&options.hook, &options.maps) {
         (Some(_), Some(text)) => maps_option_text(alloc, text.as_str()),
@@ -36,7 +36,7 @@ fn maps_complaint(alloc: Global, options: &Options) -> Result<String, AllocError
     }
 }
 
-/// What is wrong with the text of `--maps`, which names no maps.
+/// Says what is wrong with the text of `--maps`, which names no maps.
 pub(crate) fn maps_option_text(alloc: Global, text: &str) -> Result<String, AllocError> {
     let why = maps_fault_text(alloc, text)?;
     format!(in alloc; "--maps: {why}")

@@ -21,7 +21,7 @@ use bq_explain::{Explanation, Limits, explain, explanation_text, judge, verdict_
 use bq_policy_file::{Head, PolicyFault, PolicySource, read_policy};
 use std::alloc::{AllocError, Global};
 
-/// The verdict on the policy whose file has that name and these bytes, or why the file is no policy. Words are refused
+/// Gives the verdict on the policy whose file has that name and these bytes, or why the file is no policy. Words are refused
 /// only if they say no head or no limits. Standard input has no name.
 pub fn check(
     alloc: Global,
@@ -45,7 +45,7 @@ pub(crate) struct Terms {
     pub(crate) limits: Limits,
 }
 
-/// What the words say beside the file, and the limits that they set.
+/// Returns what the words say beside the file, and the limits that they set.
 pub(crate) fn terms_of(alloc: Global, words: &CheckWords) -> Result<Terms, WordsFault>
     ensures gives { IfOk result (λ terms. GivesHead words.now.policy terms.head) }
     ensures has { IfOk result (λ terms. HasLimits words.now.limits terms.limits) }
@@ -72,7 +72,7 @@ fn check_file(
     }
 }
 
-/// The verdict on the policy in the file of these bytes, in the form that the words ask for.
+/// Gives the verdict on the policy in the file of these bytes, in the form that the words ask for.
 fn check_policy(
     alloc: Global,
     words: &CheckWords,
@@ -91,7 +91,7 @@ fn check_policy(
     judge_policy(alloc, words, policy, limits)
 }
 
-/// The verdict on a policy, by one line.
+/// Gives the verdict on a policy, by one line.
 fn judge_policy(
     alloc: Global,
     words: &CheckWords,
@@ -106,7 +106,7 @@ fn judge_policy(
     Ok(answered(verdict.is_accepted(), line))
 }
 
-/// Why the file of these bytes is no policy, in the form that the words ask for.
+/// Says why the file of these bytes is no policy, in the form that the words ask for.
 fn refusal(
     alloc: Global,
     words: &CheckWords,
@@ -125,7 +125,7 @@ fn refusal(
     Ok(line)
 }
 
-/// An answer of that text.
+/// Makes an answer of that text.
 fn answered(accepted: bool, text: String) -> Answered
     ensures { result ≡ answered accepted text }
 {
@@ -136,7 +136,7 @@ fn answered(accepted: bool, text: String) -> Answered
     }
 }
 
-/// Why the file of these bytes is no policy, with the reason, in words or as JSON.
+/// Says why the file of these bytes is no policy, with the reason, in words or as JSON.
 fn reasoned_refusal(
     alloc: Global,
     words: &CheckWords,
@@ -156,7 +156,7 @@ fn reasoned_refusal(
     Ok(text)
 }
 
-/// An explanation, in words or as JSON. In words it ends with the line of C, if the text names one.
+/// Writes an explanation, in words or as JSON. In words it ends with the line of C, if the text names one.
 fn shown(
     alloc: Global,
     words: &CheckWords,

@@ -21,7 +21,7 @@ use std::alloc::{AllocError, Global};
 /// The reason against a text that names no hook.
 pub const HOOK_UNNAMED: &str = "no hook is named: write a line ;@ hook place in the text's head";
 
-/// The line that refuses the file. If memory ran out, that is handed on.
+/// Writes the line that refuses the file. If memory ran out, that is handed on.
 pub fn fault_line(alloc: Global, fault: PolicyFault) -> Result<String, AllocError>
     ensures line { IfOk result (λ text. string_bytes text ≡ policy_fault_line fault) }
     ensures other { OnOk result (fault ≢ OutOfMemory) }
@@ -42,7 +42,7 @@ pub struct FileFault {
     pub why: String,
 }
 
-/// A reason for the whole file.
+/// Makes a reason for the whole file.
 fn whole(why: String) -> FileFault {
     FileFault {
         line: None,
@@ -51,7 +51,7 @@ fn whole(why: String) -> FileFault {
     }
 }
 
-/// A reason for that line.
+/// Makes a reason for that line.
 fn at_line(line: usize, why: String) -> FileFault {
     FileFault {
         line: Some(line),
@@ -60,7 +60,7 @@ fn at_line(line: usize, why: String) -> FileFault {
     }
 }
 
-/// Whether the file of these bytes is an object file.
+/// Returns whether the file of these bytes is an object file.
 fn is_object(bytes: &[u8]) -> bool {
     bytes.starts_with(b"\x7fELF")
 }
@@ -69,7 +69,7 @@ fn is_object(bytes: &[u8]) -> bool {
 const OBJECT: &str =
     "the file is an ELF object file, and no policy: bqsim import makes a policy of it (docs/POLICIES_IN_C.md)";
 
-/// What is wrong with the file of these bytes.
+/// Says what is wrong with the file of these bytes.
 pub(crate) fn reason_of(
     alloc: Global,
     bytes: &[u8],
@@ -102,7 +102,7 @@ pub(crate) fn reason_of(
     }
 }
 
-/// A reason for the whole file, in these words.
+/// Makes a reason for the whole file, in these words.
 fn plain(alloc: Global, why: &str) -> Result<FileFault, AllocError> {
     Ok(whole(String::from_str(alloc, why)?))
 }
@@ -113,7 +113,7 @@ pub fn fault_reason(alloc: Global, bytes: &[u8], fault: PolicyFault) -> Result<S
     reason_text(alloc, None, &reason)
 }
 
-/// The reason after the file's name, if there is one: `p.s line 3: why`, `p.s: why`.
+/// Writes the reason after the file's name, if there is one: `p.s line 3: why`, `p.s: why`.
 pub(crate) fn reason_text(
     alloc: Global,
     name: Option<&str>,
@@ -128,7 +128,7 @@ pub(crate) fn reason_text(
     }
 }
 
-/// The reason after the file's name and its place, unless the place is the whole file.
+/// Writes the reason after the file's name and its place, unless the place is the whole file.
 fn named_text(alloc: Global, name: Name<'_>, at: &str, why: &str) -> Result<String, AllocError> {
     if at.is_empty() {
         return format!(in alloc; "{name}: {why}");
@@ -170,7 +170,7 @@ pub(crate) fn put_fault(
     put(fields, alloc, "slot", slot_value(fault))
 }
 
-/// The slot that a fault names, or null.
+/// Returns the slot that a fault names, or null.
 fn slot_value(fault: PolicyFault) -> Value
     ensures { view result ≡ slot_of fault }
 {
@@ -180,7 +180,7 @@ fn slot_value(fault: PolicyFault) -> Value
     }
 }
 
-/// Which part of the program refuses the file.
+/// Names the part of the program that refuses the file.
 fn stage_of(fault: PolicyFault) -> &'static str
     ensures { result.now ≡ stage_of fault }
 {
@@ -197,7 +197,7 @@ fn stage_of(fault: PolicyFault) -> &'static str
     }
 }
 
-/// What is wrong with words that say another thing than the file of these bytes.
+/// Says what is wrong with words that say another thing than the file of these bytes.
 fn difference_text(alloc: Global, bytes: &[u8], key: Key) -> Result<String, AllocError> {
     match key {
         Key::Hook => hook_difference(alloc, bytes),
@@ -234,7 +234,7 @@ fn assembly_reason(
     Ok(at_line(line, why))
 }
 
-/// What is wrong with a line that begins with `;@`.
+/// Says what is wrong with a line that begins with `;@`.
 fn head_reason(
     alloc: Global,
     bytes: &[u8],
@@ -260,7 +260,7 @@ const KEYS: [&str; 3] = ["hook", "maps", "format"];
 /// The most bytes of a word that a key may be near.
 const LONGEST: usize = 40;
 
-/// The key that the line of that number has misspelled, if it is a near one.
+/// Returns the key that the line of that number has misspelled, if it is a near one.
 fn near_key(
     alloc: Global,
     bytes: &[u8],
@@ -289,7 +289,7 @@ fn near_key(
     Ok(best)
 }
 
-/// What is wrong with what a line says of a key.
+/// Says what is wrong with what a line says of a key.
 fn value_text(alloc: Global, key: Key, value: &str) -> Result<String, AllocError> {
     let shown = with_nul_shown(alloc, value)?;
     let value = shown.as_str();
@@ -304,18 +304,18 @@ fn value_text(alloc: Global, key: Key, value: &str) -> Result<String, AllocError
     }
 }
 
-/// The last word of the line of that number, counted from 1.
+/// Returns the last word of the line of that number, counted from 1.
 fn last_word(bytes: &[u8], number: usize) -> Option<&str> {
     line_at(bytes, number)?.split_whitespace().last()
 }
 
-/// The line of that number, counted from 1.
+/// Returns the line of that number, counted from 1.
 fn line_at(bytes: &[u8], number: usize) -> Option<&str> {
     let text = std::str::from_utf8(bytes).ok()?;
     text.lines().nth(number.checked_sub(1)?)
 }
 
-/// What is wrong with a line that begins with `;@`, for this cause, and what such a line may say.
+/// Says what is wrong with a line that begins with `;@`, for this cause, and what such a line may say.
 fn head_text(cause: HeadCause) -> &'static str {
     match cause {
         HeadCause::Unknown => {

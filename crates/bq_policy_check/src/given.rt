@@ -20,7 +20,7 @@ pub const HOOK_WORDS: &str = with_hooks!("");
 /// What the value of `--format` is.
 pub const FORMAT: &str = with_versions!("a format is ");
 
-/// What the words say beside the file. They are refused only if they say no head.
+/// Returns what the words say beside the file. Words are refused only if they say no head.
 pub fn given_head(alloc: Global, words: &PolicyWords) -> Result<Head, WordsFault>
     ensures gives { IfOk result (GivesHead words.now) }
     ensures none { IfErr result (GivesNone (GivesHead words.now)) }
@@ -31,7 +31,7 @@ pub fn given_head(alloc: Global, words: &PolicyWords) -> Result<Head, WordsFault
     Ok(Head { hook, maps, format })
 }
 
-/// The hook that a word names, if there is a word.
+/// Returns the hook that a word names, if there is a word.
 fn hook_in(alloc: Global, word: &Option<String>) -> Result<Option<Hook>, WordsFault>
     ensures gives { IfOk result (GivesWord (λ bytes hook. hook_of bytes ≡ Some hook) (option_bytes word.now)) }
     ensures none { IfErr result (GivesNone (GivesWord (λ bytes hook. hook_of bytes ≡ Some hook) (option_bytes word.now))) }
@@ -45,7 +45,7 @@ fn hook_in(alloc: Global, word: &Option<String>) -> Result<Option<Hook>, WordsFa
     }
 }
 
-/// The version that a word names, if there is a word.
+/// Returns the version that a word names, if there is a word.
 fn format_in(alloc: Global, word: &Option<String>) -> Result<Option<Version>, WordsFault>
     ensures gives { IfOk result (GivesWord (λ bytes version. version_of bytes ≡ Some version) (option_bytes word.now)) }
     ensures none { IfErr result (GivesNone (GivesWord (λ bytes version. version_of bytes ≡ Some version) (option_bytes word.now))) }
@@ -59,7 +59,7 @@ fn format_in(alloc: Global, word: &Option<String>) -> Result<Option<Version>, Wo
     }
 }
 
-/// The shapes of maps that a text names, if there is a text.
+/// Returns the shapes of maps that a text names, if there is a text.
 fn maps_in(alloc: Global, text: &Option<String>) -> Result<Option<Vec<MapShape>>, WordsFault>
     ensures gives { IfOk result (GivesWord NamesMapShapes (option_bytes text.now)) }
     ensures none { IfErr result (GivesNone (GivesWord NamesMapShapes (option_bytes text.now))) }

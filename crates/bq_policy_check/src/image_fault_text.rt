@@ -4,7 +4,7 @@ use bq_hooks::{with_hooks, with_versions};
 use bq_insn::fault::DecodeCause;
 use bq_load::LoadFault;
 
-/// What is wrong with the bytes of an image.
+/// Says what is wrong with the bytes of an image.
 pub(crate) fn image_fault_text(fault: LoadFault) -> &'static str {
     match fault {
         LoadFault::Magic => "the bytes do not begin with the letters BQPI: this is no image",
@@ -24,7 +24,7 @@ pub(crate) fn image_fault_text(fault: LoadFault) -> &'static str {
     }
 }
 
-/// What is wrong with the bytes of an instruction.
+/// Says what is wrong with the bytes of an instruction.
 pub(crate) fn spelling_fault_text(cause: DecodeCause) -> &'static str {
     match cause {
         DecodeCause::Length => with_slots!("a program has ", " slots of 8 bytes"),

@@ -19,7 +19,7 @@ use serde_json::{Map, Value, put};
 use std::alloc::{AllocError, Global};
 use std::str::Lines;
 
-/// The parts of a verdict.
+/// Adds the parts of a verdict.
 pub(crate) fn put_verdict(
     fields: &mut Map<String, Value>,
     alloc: Global,
@@ -49,7 +49,7 @@ pub(crate) fn put_verdict(
     }
 }
 
-/// The hook, the version and the budget of a policy that is accepted.
+/// Adds the hook, the version and the budget of a policy that is accepted.
 fn put_accepted(
     fields: &mut Map<String, Value>,
     alloc: Global,
@@ -64,7 +64,7 @@ fn put_accepted(
     put_number(fields, alloc, "budget", u64::from(budget))
 }
 
-/// The limit that a policy is beyond.
+/// Adds the limit that a policy is beyond.
 fn put_limit(fields: &mut Map<String, Value>, alloc: Global, cause: &str) -> Result<(), AllocError>
     ensures { OnOk result (members_view fields.new.entries ≡ put_all (of_limit cause.now) (members_view fields.old.entries)) }
 {
@@ -72,7 +72,7 @@ fn put_limit(fields: &mut Map<String, Value>, alloc: Global, cause: &str) -> Res
     put_text(fields, alloc, "cause", cause)
 }
 
-/// The cause for which the verifier refuses a policy, and the slot.
+/// Adds the cause for which the verifier refuses a policy, and the slot.
 fn put_refusal(
     fields: &mut Map<String, Value>,
     alloc: Global,
@@ -88,7 +88,7 @@ fn put_refusal(
     put_number(fields, alloc, "slot", slot as u64)
 }
 
-/// The fields for an accepted policy: its maps, and what it uses.
+/// Makes the fields for an accepted policy: its maps, and what it uses.
 pub(crate) fn fields_of_summary(
     alloc: Global,
     policy: &PolicySource,
@@ -104,7 +104,7 @@ pub(crate) fn fields_of_summary(
     Ok(fields)
 }
 
-/// The fields for a policy that the verifier refuses: the cause in words, the instruction, the need, what is known,
+/// Makes the fields for a policy that the verifier refuses: the cause in words, the instruction, the need, what is known,
 /// where that comes from, and what helps.
 pub(crate) fn fields_of_refusal(
     alloc: Global,
@@ -126,7 +126,7 @@ pub(crate) fn fields_of_refusal(
     Ok(fields)
 }
 
-/// The fields for a policy that exceeds a limit: the place of a call that is not allowed.
+/// Makes the fields for a policy that exceeds a limit: the place of a call that is not allowed.
 pub(crate) fn fields_of_limit(
     alloc: Global,
     place: &Option<ProgramPoint>,
@@ -138,7 +138,7 @@ pub(crate) fn fields_of_limit(
     Ok(fields)
 }
 
-/// A text under a key.
+/// Adds a text under a key.
 pub(crate) fn put_text(
     fields: &mut Map<String, Value>,
     alloc: Global,
@@ -150,7 +150,7 @@ pub(crate) fn put_text(
     put(fields, alloc, key, Value::try_from_str(alloc, text)?)
 }
 
-/// A number under a key.
+/// Adds a number under a key.
 fn put_number(
     fields: &mut Map<String, Value>,
     alloc: Global,
@@ -162,7 +162,7 @@ fn put_number(
     put(fields, alloc, key, Value::from(value))
 }
 
-/// The slot, the line and the text of an instruction.
+/// Adds the slot, the line and the text of an instruction.
 fn put_place(
     fields: &mut Map<String, Value>,
     alloc: Global,
@@ -172,7 +172,7 @@ fn put_place(
     put_instruction(fields, alloc, place)
 }
 
-/// The line and the text of an instruction.
+/// Adds the line and the text of an instruction.
 fn put_instruction(
     fields: &mut Map<String, Value>,
     alloc: Global,
@@ -183,7 +183,7 @@ fn put_instruction(
     put_text(fields, alloc, "instruction", insn.as_str())
 }
 
-/// The number, or null.
+/// Returns the number, or null.
 pub(crate) fn number_value(number: Option<usize>) -> Value {
     match number {
         Some(number) => Value::from(number as u64),
@@ -191,7 +191,7 @@ pub(crate) fn number_value(number: Option<usize>) -> Value {
     }
 }
 
-/// What is known of each register, by its name; null if nothing is known before the instruction.
+/// Shows what is known of each register, by its name; null if nothing is known before the instruction.
 fn registers_value(
     alloc: Global,
     shapes: &[MapShape],
@@ -203,7 +203,7 @@ fn registers_value(
     }
 }
 
-/// What is known of each register of which something is.
+/// Shows what is known of each register of which anything is known.
 fn known_value(
     alloc: Global,
     shapes: &[MapShape],
@@ -220,7 +220,7 @@ fn known_value(
     Ok(Value::Object(registers))
 }
 
-/// The instructions that made registers, the nearest first.
+/// Lists the instructions that made registers, the nearest first.
 fn trail_value(
     alloc: Global,
     shapes: &[MapShape],
@@ -233,7 +233,7 @@ fn trail_value(
     Ok(Value::Array(values))
 }
 
-/// An instruction that made a register, and what the register is known to be after it.
+/// Shows an instruction that made a register, and what the register is known to be after it.
 fn made_value(
     alloc: Global,
     shapes: &[MapShape],
@@ -253,7 +253,7 @@ fn made_value(
     Ok(Value::Object(fields))
 }
 
-/// What is known of a word, or null.
+/// Returns what is known of a word, or null.
 fn known_or_null(
     alloc: Global,
     shapes: &[MapShape],
@@ -268,7 +268,7 @@ fn known_or_null(
     }
 }
 
-/// The name of the file, or null of standard input. Bytes that are no UTF-8 text are escaped, as `\xff`.
+/// Returns the name of the file, or null of standard input. Bytes that are no UTF-8 text are escaped, as `\xff`.
 pub(crate) fn file_value(alloc: Global, name: Option<&str>) -> Result<Value, AllocError> {
     match name {
         Some(name) => {
@@ -279,7 +279,7 @@ pub(crate) fn file_value(alloc: Global, name: Option<&str>) -> Result<Value, All
     }
 }
 
-/// The name with `\x` where it has `NO_TEXT`, which two hex digits follow. JSON has its own way to write control characters.
+/// Writes the name with `\x` where it has `NO_TEXT`, which two hex digits follow. JSON has its own way to write control characters.
 fn with_bytes(alloc: Global, name: &str) -> Result<String, AllocError> {
     let mut shown = String::new(alloc);
     for letter in name.chars() {
@@ -292,7 +292,7 @@ fn with_bytes(alloc: Global, name: &str) -> Result<String, AllocError> {
     Ok(shown)
 }
 
-/// A list of lines.
+/// Makes a list of lines.
 pub(crate) fn lines_value(alloc: Global, lines: Lines<'_>) -> Result<Value, AllocError> {
     let mut values = Vec::new(alloc);
     for line in lines {
@@ -301,7 +301,7 @@ pub(crate) fn lines_value(alloc: Global, lines: Lines<'_>) -> Result<Value, Allo
     Ok(Value::Array(values))
 }
 
-/// Maps: of each the size of a value and the number of entries.
+/// Lists maps: of each the size of a value and the number of entries.
 fn maps_value(alloc: Global, shapes: &[MapShape]) -> Result<Value, AllocError> {
     let mut values = Vec::new(alloc);
     for shape in shapes {
@@ -310,7 +310,7 @@ fn maps_value(alloc: Global, shapes: &[MapShape]) -> Result<Value, AllocError> {
     Ok(Value::Array(values))
 }
 
-/// The shape of a map as a JSON object: the size of a value, and the number of entries.
+/// Shows the shape of a map as a JSON object: the size of a value, and the number of entries.
 fn map_value(alloc: Global, shape: &MapShape) -> Result<Value, AllocError> {
     let mut fields = Map::new(alloc);
     let size = Value::from(u64::from(shape.value_size));
@@ -320,7 +320,7 @@ fn map_value(alloc: Global, shape: &MapShape) -> Result<Value, AllocError> {
     Ok(Value::Object(fields))
 }
 
-/// Helpers by their numbers.
+/// Lists helpers by their numbers.
 fn helpers_value(alloc: Global, helpers: &[i32]) -> Result<Value, AllocError> {
     let mut values = Vec::new(alloc);
     for helper in helpers {
@@ -329,7 +329,7 @@ fn helpers_value(alloc: Global, helpers: &[i32]) -> Result<Value, AllocError> {
     Ok(Value::Array(values))
 }
 
-/// The cause in a word.
+/// Names the cause in a word.
 fn cause_word(cause: Cause) -> &'static str {
     match cause {
         Cause::Graph(GraphCause::Jump) => "jump",

@@ -20,7 +20,7 @@ use std::alloc::{AllocError, Global};
 /// The version of the schema.
 const SCHEMA: u64 = 1;
 
-/// The explanation of a policy as one line of JSON.
+/// Writes the explanation of a policy as one line of JSON.
 pub(crate) fn explanation_json(
     alloc: Global,
     name: Option<&str>,
@@ -45,7 +45,7 @@ pub(crate) fn explanation_json(
     line_of(alloc, fields)
 }
 
-/// Why a file is no policy, as one line of JSON.
+/// Says why a file is no policy, as one line of JSON.
 pub(crate) fn reason_json(
     alloc: Global,
     name: Option<&str>,
@@ -65,7 +65,7 @@ pub(crate) fn reason_json(
     line_of(alloc, fields)
 }
 
-/// Why no answer comes to a file, as one line of JSON: `stage` is `words`, `memory`, `reading` or `writing`.
+/// Says why no answer comes to a file, as one line of JSON: `stage` is `words`, `memory`, `reading` or `writing`.
 pub fn unanswered_json(
     alloc: Global,
     name: Option<&str>,
@@ -82,7 +82,7 @@ pub fn unanswered_json(
     line_of(alloc, fields)
 }
 
-/// A name of a file as messages show it.
+/// Writes a name of a file as messages show it.
 pub(crate) fn name_text(alloc: Global, name: Option<&str>) -> Result<Option<String>, AllocError> {
     match name {
         Some(name) => {
@@ -93,7 +93,7 @@ pub(crate) fn name_text(alloc: Global, name: Option<&str>) -> Result<Option<Stri
     }
 }
 
-/// The first line of a text, and the rest after it.
+/// Returns the first line of a text, and the rest after it.
 fn first_line(text: &str) -> (&str, &str)
     ensures { result.0.now ≡ first_line text.now }
 {
@@ -113,7 +113,7 @@ fn fields_of(
     }
 }
 
-/// The version of the schema, the file's name, and the lines that explain the answer.
+/// Adds the version of the schema, the file's name, and the lines that explain the answer.
 fn put_explanation(
     fields: &mut Map<String, Value>,
     alloc: Global,

@@ -23,7 +23,7 @@ const HOOKS: &str = with_hooks!("each is one of ", ", with commas between them")
 /// What a list of helpers is.
 const HELPERS: &str = with_helpers!("each is the number of a helper, with commas between them: ");
 
-/// The limits that the words set. They are refused only if they set none.
+/// Returns the limits that the words set. Words are refused only if they set none.
 pub fn limits_of(alloc: Global, words: &LimitWords) -> Result<Limits, WordsFault>
     ensures has { IfOk result (HasLimits words.now) }
     ensures none { IfErr result (GivesNone (HasLimits words.now)) }
@@ -44,7 +44,7 @@ pub fn limits_of(alloc: Global, words: &LimitWords) -> Result<Limits, WordsFault
     })
 }
 
-/// The number of a limit, if there is a word of it.
+/// Returns the number of a limit, if there is a word of it.
 fn most_in(
     alloc: Global,
     word: &Option<String>,
@@ -63,7 +63,7 @@ fn most_in(
     }
 }
 
-/// The hooks that a policy may be for, if there is a word of them: their words with commas between.
+/// Returns the hooks that a policy may be for, if there is a word of them: their words with commas between.
 fn hooks_in(alloc: Global, word: &Option<String>) -> Result<Option<Vec<Hook>>, WordsFault>
     ensures gives { IfOk result (GivesWord NamesHooks (option_bytes word.now)) }
     ensures none { IfErr result (GivesNone (GivesWord NamesHooks (option_bytes word.now))) }
@@ -80,7 +80,7 @@ fn hooks_in(alloc: Global, word: &Option<String>) -> Result<Option<Vec<Hook>>, W
     }
 }
 
-/// The first part between commas that is no hook, or the whole text if each is one.
+/// Returns the first part between commas that is no hook, or the whole text if each is one.
 fn no_hook(text: &str) -> &str {
     for part in text.split(',') {
         if Hook::of_word(part.as_bytes()).is_none() {
@@ -90,7 +90,7 @@ fn no_hook(text: &str) -> &str {
     text
 }
 
-/// The hooks of a text with commas between; none of an empty text.
+/// Returns the hooks of a text with commas between; none of an empty text.
 #[tactic(auto, using(crate::proofs::ListLemmas::none_named, crate::proofs::ListLemmas::all_named, crate::proofs::ListLemmas::not_named))]
 fn hooks_of(alloc: Global, text: &str) -> Result<Option<Vec<Hook>>, AllocError>
     ensures { IfOk result (λ named. MatchOption named (NamesNoHooks text.now) (NamesHooks text.now)) }
@@ -119,7 +119,7 @@ fn push_hooks(hooks: &mut Vec<Hook>, text: &str) -> Result<bool, AllocError>
     Ok(true)
 }
 
-/// The helpers that may be called, if there is a word of them: their numbers with commas between.
+/// Returns the helpers that may be called, if there is a word of them: their numbers with commas between.
 fn helpers_in(alloc: Global, word: &Option<String>) -> Result<Option<Vec<i32>>, WordsFault>
     ensures gives { IfOk result (GivesWord NamesHelpers (option_bytes word.now)) }
     ensures none { IfErr result (GivesNone (GivesWord NamesHelpers (option_bytes word.now))) }
@@ -133,7 +133,7 @@ fn helpers_in(alloc: Global, word: &Option<String>) -> Result<Option<Vec<i32>>, 
     }
 }
 
-/// The first part between commas that is no helper, or the whole text if each is one.
+/// Returns the first part between commas that is no helper, or the whole text if each is one.
 fn no_helper(text: &str) -> &str {
     for part in text.split(',') {
         if helper(part.as_bytes()).is_none() {
@@ -143,7 +143,7 @@ fn no_helper(text: &str) -> &str {
     text
 }
 
-/// The helpers of a text with commas between; none of an empty text.
+/// Returns the helpers of a text with commas between; none of an empty text.
 #[tactic(auto, using(crate::proofs::ListLemmas::none_named, crate::proofs::ListLemmas::all_named, crate::proofs::ListLemmas::not_named))]
 fn numbers_of(alloc: Global, text: &str) -> Result<Option<Vec<i32>>, AllocError>
     ensures { IfOk result (λ named. MatchOption named (NamesNoHelpers text.now) (NamesHelpers text.now)) }

@@ -12,7 +12,7 @@ use bq_console::{WordsFault, file_named};
 use bq_policy_file::{Head, PolicyFault, policy_text, read_policy};
 use std::alloc::{AllocError, Global};
 
-/// The listing of the policy whose file has these bytes, under the marks that say its hook, maps and version. Words are
+/// Lists the policy whose file has these bytes, under the marks that say its hook, maps and version. Words are
 /// refused only if they say no head.
 pub fn list(alloc: Global, words: &DisWords, bytes: &[u8]) -> Result<Answered, AllocError>
     ensures { IfOk result (ListsTo words.now bytes.now) }
@@ -45,7 +45,7 @@ fn list_file(
     }
 }
 
-/// The line that refuses a file, and what is wrong with it.
+/// Writes the line that refuses a file, and what is wrong with it.
 pub fn refused_file(
     alloc: Global,
     file: &Option<String>,
@@ -60,7 +60,7 @@ pub fn refused_file(
     reasoned(alloc, file_named(file), &reason, &line)
 }
 
-/// A line that refuses a file, and the reason after it.
+/// Writes a line that refuses a file, and the reason after it.
 pub(crate) fn reasoned(
     alloc: Global,
     name: Option<&str>,

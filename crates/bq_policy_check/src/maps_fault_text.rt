@@ -7,7 +7,7 @@ use std::alloc::{AllocError, Global};
 /// What a part of the text is.
 const MAP: &str = "a map is the size of a value, a colon and the number of entries, as 8:2";
 
-/// What is wrong with a text that names no maps: its first part that names no map, and what a part may say; or that there are
+/// Says what is wrong with a text that names no maps: its first part that names no map, and what a part may say; or that there are
 /// too many parts.
 pub(crate) fn maps_fault_text(alloc: Global, text: &str) -> Result<String, AllocError> {
     let mut number: usize = 0;
@@ -20,17 +20,17 @@ pub(crate) fn maps_fault_text(alloc: Global, text: &str) -> Result<String, Alloc
     many_text(alloc, number)
 }
 
-/// What is wrong with this many maps, each of which is one.
+/// Says what is wrong with this many maps, each of which is one.
 fn many_text(alloc: Global, number: usize) -> Result<String, AllocError> {
     format!(in alloc; "{number} maps; a program has {MAPS} at most")
 }
 
-/// Whether a text names maps.
+/// Returns whether a text names maps.
 fn is_maps(alloc: Global, text: &str) -> Result<bool, AllocError> {
     Ok(shapes_of(alloc, text.as_bytes())?.is_some())
 }
 
-/// What is wrong with the part of that number, which names no map.
+/// Says what is wrong with the part of that number, which names no map.
 fn part_text(alloc: Global, number: usize, part: &str) -> Result<String, AllocError> {
     if part.is_empty() {
         return format!(in alloc; "part {number} is empty: {MAP}");
@@ -39,13 +39,13 @@ fn part_text(alloc: Global, number: usize, part: &str) -> Result<String, AllocEr
     wrong_text(alloc, number, part, why.as_str())
 }
 
-/// What is wrong with the part of that number, and why.
+/// Says what is wrong with the part of that number, and why.
 fn wrong_text(alloc: Global, number: usize, part: &str, why: &str) -> Result<String, AllocError> {
     let part = Quoted(part);
     format!(in alloc; "part {number} \"{part}\": {why}")
 }
 
-/// What is wrong with a text that names no map.
+/// Says what is wrong with a text that names no map.
 fn map_text(alloc: Global, part: &str) -> Result<String, AllocError> {
     match part.split_once(':') {
         Some((size, entries)) if !entries.contains(":") => pair_text(alloc, size, entries),
@@ -63,13 +63,13 @@ fn pair_text(alloc: Global, size: &str, entries: &str) -> Result<String, AllocEr
     }
 }
 
-/// What is wrong with a text that is the size of no value.
+/// Says what is wrong with a text that is the size of no value.
 fn size_text(alloc: Global, size: &str) -> Result<String, AllocError> {
     let got = got_text(alloc, size)?;
     format!(in alloc; "the size of a value is {SIZE_WORDS} (got {got})")
 }
 
-/// What is wrong with a text that is no number of entries.
+/// Says what is wrong with a text that is no number of entries.
 fn entries_text(alloc: Global, entries: &str) -> Result<String, AllocError> {
     let got = got_text(alloc, entries)?;
     format!(in alloc; "the number of entries is {ENTRIES_WORDS} (got {got})")

@@ -7,7 +7,7 @@ ghost use Rattle.bq_policy_check.specs.Given.{IsNumberBelow};
 use bq_bpf::Helper;
 use bq_words::number;
 
-/// A number in decimal, below 2^32.
+/// Reads a number in decimal, below 2^32.
 pub fn small_number(word: &str) -> Option<u32>
     ensures some { IfSome result (IsNumberBelow (2 ^ 32) word.now) }
     ensures none { IfNone result ((number : ℕ) → ¬ IsNumberBelow (2 ^ 32) word.now number) }
@@ -16,7 +16,7 @@ pub fn small_number(word: &str) -> Option<u32>
     u32::try_from(number).ok()
 }
 
-/// The number of a helper, in decimal.
+/// Reads the number of a helper, in decimal.
 pub(crate) fn helper(word: &[u8]) -> Option<i32>
     ensures some { IfSome result (IsHelperWord word.now) }
     ensures none { IfNone result ((number : ℤ) → ¬ IsHelperWord word.now number) }

@@ -4,7 +4,7 @@ use bq_explain::{Detail, Explanation};
 use std::alloc::{AllocError, Global};
 use std::str::from_utf8;
 
-/// What an explanation says of the line of C; empty if no comment above the instruction names one.
+/// Says which line of C the instruction at fault comes from; empty if no comment above the instruction names one.
 pub(crate) fn source_text(
     alloc: Global,
     file: &[u8],
@@ -16,7 +16,7 @@ pub(crate) fn source_text(
     }
 }
 
-/// The line of C of the instruction at fault, as `turns.c:10`, by the last comment above it that is of this form.
+/// Returns the line of C of the instruction at fault, as `turns.c:10`, by the last comment above it that is of this form.
 fn source_of<'a>(file: &'a [u8], explanation: &Explanation) -> Option<&'a str> {
     let line = line_at_fault(explanation)?;
     let text = from_utf8(file).ok()?;
@@ -32,7 +32,7 @@ fn source_of<'a>(file: &'a [u8], explanation: &Explanation) -> Option<&'a str> {
     source
 }
 
-/// The line of the text that has the instruction at fault.
+/// Returns the line of the text that has the instruction at fault.
 fn line_at_fault(explanation: &Explanation) -> Option<usize> {
     match &explanation.detail {
         Detail::Refused(refusal) => refusal.place.line,
@@ -41,7 +41,7 @@ fn line_at_fault(explanation: &Explanation) -> Option<usize> {
     }
 }
 
-/// The line of C that the comment names, if it is one of `import`.
+/// Returns the line of C that the comment names, if it is one of `import`.
 fn source_named(stated: &str) -> Option<&str> {
     let words = stated.strip_prefix("; ")?;
     let (file, line) = words.rsplit_once(':')?;

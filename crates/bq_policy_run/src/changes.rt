@@ -8,7 +8,7 @@ use bq_bpf::CounterCall;
 use bq_maps::Maps;
 use std::alloc::{AllocError, Global};
 
-/// The bytes of each map.
+/// Copies the bytes of each map.
 pub fn copied(alloc: Global, maps: &Maps) -> Result<Vec<Vec<u8>>, AllocError>
     ensures { IfOk result (λ all. map (λ v. v.items) all.items ≡ maps.now.bytes) }
 {
@@ -35,7 +35,7 @@ pub fn write_changes(
     Ok(())
 }
 
-/// A line for each entry of the map of that number whose bytes are other than before.
+/// Writes a line for each entry of the map of that number whose bytes are other than before.
 fn write_map(
     alloc: Global,
     before: &[Vec<u8>],
@@ -51,7 +51,7 @@ fn write_map(
     Ok(())
 }
 
-/// How many entries the map of that number has; 0 if no map has that number.
+/// Returns how many entries the map of that number has; 0 if no map has that number.
 fn entries(maps: &Maps, number: usize) -> u32
     ensures { result ≡ entries_in (slice_get maps.now.shapes number) }
 {
@@ -80,7 +80,7 @@ fn write_change(
     write_entry(alloc, number, entry, bytes, text)
 }
 
-/// The bytes that an entry had before, as far as the bytes of its map are there.
+/// Returns the bytes that an entry had before, as far as the bytes of its map are there.
 fn entry_before<'a>(before: &'a [Vec<u8>], maps: &Maps, number: usize, entry: u32) -> &'a [u8]
     requires { HasEntry maps.now number entry }
     ensures { result.now ≡ entry_of (with_contents maps.now before.now) number entry }
@@ -92,7 +92,7 @@ fn entry_before<'a>(before: &'a [Vec<u8>], maps: &Maps, number: usize, entry: u3
     }
 }
 
-/// The line of an entry, with its bytes.
+/// Writes the line of an entry, with its bytes.
 fn write_entry(
     alloc: Global,
     number: usize,
@@ -106,7 +106,7 @@ fn write_entry(
     write!(text, "map {number} entry {entry}: {reported}\n")
 }
 
-/// This many bytes from there on, as far as there are.
+/// Returns this many bytes from there on, as far as there are.
 fn part(bytes: &[u8], at: usize, count: usize) -> &[u8]
     ensures { result.now ≡ slice_range bytes.now at (at + count) }
 {
@@ -124,7 +124,7 @@ pub fn write_calls(calls: &[CounterCall], text: &mut String) -> Result<(), Alloc
     Ok(())
 }
 
-/// The line of a call.
+/// Writes the line of a call.
 fn write_call(call: &CounterCall, text: &mut String) -> Result<(), AllocError>
     ensures { OnOk result (string_bytes text.new ≡ string_bytes text.old ++ call_line call.now) }
 {

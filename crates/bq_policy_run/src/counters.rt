@@ -51,7 +51,7 @@ impl Inputs {
     }
 }
 
-/// The counter that a text names, and its value.
+/// Returns the counter that a text names, and its value.
 fn counter_named(text: &str) -> Option<(usize, u64)>
     ensures some { IfSome result (λ named. NamesCounter text.now named.0 named.1) }
     ensures none { IfNone result ((counter word : ℕ) → counter < 2 ^ 64 → word < 2 ^ 64 → ¬ NamesCounter text.now counter word) }
@@ -60,7 +60,7 @@ fn counter_named(text: &str) -> Option<(usize, u64)>
     decimal(number).zip(value(word))
 }
 
-/// What is wrong with a text that names no counter and value.
+/// Says what is wrong with a text that names no counter and value.
 fn flaw_of(text: &str) -> &'static str {
     match cut(text, '=') {
         None => "a counter is set as 3=10",

@@ -97,7 +97,7 @@ fn numbered(alloc: Global, one: &str, several: &str, count: usize) -> Result<Str
     }
 }
 
-/// The map and the entry that a text names, as `0:2`.
+/// Returns the map and the entry that a text names, as `0:2`.
 fn entry_named(place: &str) -> Option<(usize, u32)>
     ensures some { IfSome result (λ named. NamesMapEntry place.now named.0 named.1) }
     ensures none { IfNone result ((m entry : ℕ) → entry < 2 ^ 32 → ¬ NamesMapEntry place.now m entry) }

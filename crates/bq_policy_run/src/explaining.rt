@@ -3,7 +3,7 @@ use bq_console::{Name, name_of};
 use bq_policy_check::PolicyWords;
 use std::alloc::{AllocError, Global};
 
-/// The line that says which command explains the refusal of a file: `p.s: bqsim check --explain --hook pull p.s says why`.
+/// Writes the line that says which command explains the refusal of a file: `p.s: bqsim check --explain --hook pull p.s says why`.
 pub(crate) fn explaining_line(alloc: Global, words: &PolicyWords) -> Result<String, AllocError> {
     let file = name_of(&words.file);
     let spelled = given_options(alloc, words)?;
@@ -15,7 +15,7 @@ pub(crate) fn explaining_line(alloc: Global, words: &PolicyWords) -> Result<Stri
     format!(in alloc; "{file}: bqsim check --explain{spelled} {given} says why\n")
 }
 
-/// The options that the caller gave beside the file, each after a blank, as `check` takes them too.
+/// Writes the options that the caller gave beside the file, each after a blank, as `check` takes them too.
 fn given_options(alloc: Global, words: &PolicyWords) -> Result<String, AllocError> {
     let mut options = String::new(alloc);
     push_option(&mut options, "hook", &words.hook)?;

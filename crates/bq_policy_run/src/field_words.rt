@@ -96,7 +96,7 @@ fn put_field(
     Ok(())
 }
 
-/// The word that a text writes for the field of that name: a number, or `none` if the field may show that there is no
+/// Returns the word that a text writes for the field of that name: a number, or `none` if the field may show that there is no
 /// such task or processor.
 fn field_word(hook: Hook, name: &str, text: &str) -> Option<u64>
     ensures some { IfSome result (IsFieldWord hook name.now text.now) }
@@ -109,14 +109,14 @@ fn field_word(hook: Hook, name: &str, text: &str) -> Option<u64>
     }
 }
 
-/// Whether a text is `none`, and the field of that name may show that there is no such task or processor.
+/// Returns whether a text is `none`, and the field of that name may show that there is no such task or processor.
 fn is_nobody(hook: Hook, name: &str, text: &str) -> bool
     ensures { IsTrue result ↔ ((text.now ≡ codes "none") × (shows_nobody hook name.now ≡ true)) }
 {
     text == "none" && shows_nobody(hook, name)
 }
 
-/// Whether the field of that name may show that there is no such task or processor.
+/// Returns whether the field of that name may show that there is no such task or processor.
 fn shows_nobody(hook: Hook, name: &str) -> bool
     ensures { result ≡ shows_nobody hook name.now }
 {
@@ -127,7 +127,7 @@ fn shows_nobody(hook: Hook, name: &str) -> bool
     }
 }
 
-/// The fault of a part whose value is no word: its field is unknown, or takes another value.
+/// Makes the fault of a part whose value is no word: its field is unknown, or takes another value.
 fn wrong_field(alloc: Global, hook: Hook, version: Version, part: &str, name: &str) -> WordsFault {
     match field_named(hook, version, name) {
         Some(field) => unfit(alloc, hook, part, name, field),
@@ -135,7 +135,7 @@ fn wrong_field(alloc: Global, hook: Hook, version: Version, part: &str, name: &s
     }
 }
 
-/// The fault of a part whose value the field does not take.
+/// Makes the fault of a part whose value the field does not take.
 fn unfit(alloc: Global, hook: Hook, part: &str, name: &str, field: Field) -> WordsFault {
     let bits = field.width.bits();
     let nobody = if shows_nobody(hook, name) {
@@ -150,7 +150,7 @@ fn unfit(alloc: Global, hook: Hook, part: &str, name: &str, field: Field) -> Wor
     }
 }
 
-/// The fault of a name that no field of the hook has, with the names that there are.
+/// Makes the fault of a name that no field of the hook has, with the names that there are.
 fn unknown(alloc: Global, name: &str, hook: Hook) -> WordsFault {
     let names = field_names(hook);
     let known = match names.split_once(" to ") {

@@ -18,7 +18,7 @@ pub enum FieldWidth {
 }
 
 impl FieldWidth {
-    /// The number of bytes.
+    /// Returns the number of bytes.
     fn bytes(self) -> usize
         ensures { result ≡ bytes_in self }
     {
@@ -28,7 +28,7 @@ impl FieldWidth {
         }
     }
 
-    /// The number of bits.
+    /// Returns the number of bits.
     pub(crate) fn bits(self) -> usize {
         match self {
             FieldWidth::Four => 32,
@@ -122,7 +122,7 @@ const PULL: [FieldRow; 10] = [
     several!("v", 40, Eight, apart 16, count 8),
 ];
 
-/// The field of that name. If the field comes several times, the name has a dot and the number.
+/// Finds the field of that name. If the field comes several times, the name has a dot and the number.
 pub(crate) fn field_named(hook: Hook, version: Version, name: &str) -> Option<Field>
     ensures some { IfSome result (IsField hook version name.now) }
     ensures none { IfNone result ((field : FieldValue) → ¬ IsField hook version name.now field) }
@@ -135,7 +135,7 @@ pub(crate) fn field_named(hook: Hook, version: Version, name: &str) -> Option<Fi
     Some(field)
 }
 
-/// The field of that name, wherever the context ends.
+/// Finds the field of that name, wherever the context ends.
 fn field_by(hook: Hook, name: &str) -> Option<Field>
     ensures some { IfSome result (GoesBy hook name.now) }
     ensures none { IfNone result ((field : FieldValue) → field.at < 2 ^ 64 → ¬ GoesBy hook name.now field) }
@@ -146,7 +146,7 @@ fn field_by(hook: Hook, name: &str) -> Option<Field>
     }
 }
 
-/// The field of that name, if it comes once.
+/// Finds the field of that name, if it comes once.
 fn by_name(hook: Hook, name: &str) -> Option<Field>
     ensures some { IfSome result (GoesByName hook name.now) }
     ensures none { IfNone result ((field : FieldValue) → ¬ GoesByName hook name.now field) }
@@ -155,7 +155,7 @@ fn by_name(hook: Hook, name: &str) -> Option<Field>
     single(row)
 }
 
-/// The field of that name and that number, if there are several.
+/// Finds the field of that name and that number, if there are several.
 fn by_number(hook: Hook, stem: &str, digits: &str) -> Option<Field>
     ensures some { IfSome result (HasNumber hook stem.now digits.now) }
     ensures none { IfNone result ((field : FieldValue) → field.at < 2 ^ 64 → ¬ HasNumber hook stem.now digits.now field) }
@@ -165,7 +165,7 @@ fn by_number(hook: Hook, stem: &str, digits: &str) -> Option<Field>
     numbered(row, number)
 }
 
-/// The table of a hook.
+/// Returns the table of a hook.
 fn rows(hook: Hook) -> &'static [FieldRow]
     ensures { map field_of_row result.now ≡ fields_of hook }
 {
@@ -176,7 +176,7 @@ fn rows(hook: Hook) -> &'static [FieldRow]
     }
 }
 
-/// The row of that name of a hook, if there is one.
+/// Finds the row of that name of a hook, if there is one.
 fn row_named(hook: Hook, name: &str) -> Option<FieldRow>
     ensures some { IfSome result (λ row. row_named (fields_of hook) name.now ≡ Some (field_of_row row)) }
     ensures none { IfNone result (row_named (fields_of hook) name.now ≡ None) }
@@ -184,14 +184,14 @@ fn row_named(hook: Hook, name: &str) -> Option<FieldRow>
     first_named(rows(hook), name)
 }
 
-/// The first row of that name, if there is one.
+/// Finds the first row of that name, if there is one.
 fn first_named(rows: &[FieldRow], name: &str) -> Option<FieldRow>
     ensures { result ≡ find (λ (row : FieldRowValue). bytes_eq row.name.now name.now) rows.now }
 {
     rows.iter().copied().find(|row| row.name == name)
 }
 
-/// The field of a row, if it comes once.
+/// Returns the field of a row, if it comes once.
 fn single(row: FieldRow) -> Option<Field>
     ensures some { IfSome result (IsSingle (field_of_row row)) }
     ensures none { IfNone result ((field : FieldValue) → ¬ IsSingle (field_of_row row) field) }
@@ -205,7 +205,7 @@ fn single(row: FieldRow) -> Option<Field>
     })
 }
 
-/// The field of that number of a row, if the row's field comes several times.
+/// Returns the field of that number of a row, if the row's field comes several times.
 fn numbered(row: FieldRow, number: usize) -> Option<Field>
     ensures some { IfSome result (IsNumbered (field_of_row row) number) }
     ensures none { IfNone result ((field : FieldValue) → field.at < 2 ^ 64 → ¬ IsNumbered (field_of_row row) number field) }
@@ -249,7 +249,7 @@ fn paste(context: &mut [u8], at: usize, bytes: &[u8]) -> bool
     true
 }
 
-/// The names of the fields of a hook, for a message.
+/// Names the fields of a hook, for a message.
 pub(crate) fn field_names(hook: Hook) -> &'static str {
     match hook {
         Hook::Place => {

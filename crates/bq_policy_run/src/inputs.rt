@@ -29,7 +29,7 @@ pub struct Inputs {
     pub board: Plain,
 }
 
-/// The inputs if no option names any: all bytes, maps and counters are 0.
+/// Makes the inputs if no option names any: all bytes, maps and counters are 0.
 pub fn inputs_of(alloc: Global, verified: &Verified, env: Env) -> Result<Inputs, AllocError>
     ensures context { IfOk result (λ i. i.context.items ≡ replicate (context_length_of verified.now.hook verified.now.version) 0) }
     ensures maps { IfOk result (λ i. AreZeroMaps verified.now.shapes i.maps) }
@@ -72,7 +72,7 @@ impl Inputs {
     }
 }
 
-/// The bytes of a hex text, if it is one.
+/// Returns the bytes of a hex text, if it is one.
 pub(crate) fn bytes_named(alloc: Global, text: &str) -> Result<Option<Vec<u8>>, AllocError>
     ensures some { IfOk result (λ named. IfSome named (λ bytes. decode_of text.now ≡ Ok bytes.items)) }
     ensures none { IfOk result (λ named. IfNone named ((bytes : List ℕ) → decode_of text.now ≢ Ok bytes)) }

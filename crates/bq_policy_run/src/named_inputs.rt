@@ -25,7 +25,7 @@ const TIME: &str = with_units!(
 /// What the number of a processor is.
 const PROCESSOR: &str = with_32_bits!("a processor is a whole number below ", "");
 
-/// The inputs that the words name; all others are 0. Words are refused only if they name no inputs.
+/// Returns the inputs that the words name; all others are 0. Words are refused only if they name no inputs.
 pub(crate) fn inputs_named(
     alloc: Global,
     words: &RunWords,
@@ -61,7 +61,7 @@ fn set_parts(
     Ok(())
 }
 
-/// The inputs before words set parts of them: the context that a word names, and all else 0.
+/// Makes the inputs before words set parts of them: the context that a word names, and all else 0.
 fn first_inputs(
     alloc: Global,
     words: &RunWords,
@@ -81,7 +81,7 @@ fn first_inputs(
     Ok(inputs)
 }
 
-/// The time and the processor.
+/// Returns the time and the processor that the words name.
 fn env_named(alloc: Global, words: &RunWords) -> Result<Env, WordsFault>
     ensures clock { IfOk result (HasClock words.now) }
     ensures none { IfErr result (GivesNone (HasClock words.now)) }
@@ -91,7 +91,7 @@ fn env_named(alloc: Global, words: &RunWords) -> Result<Env, WordsFault>
     Ok(Env { now, processor })
 }
 
-/// The nanoseconds that a word names, by a unit or without; 0 without a word.
+/// Returns the nanoseconds that a word names, by a unit or without; 0 without a word.
 fn time(alloc: Global, word: &Option<String>) -> Result<u64, WordsFault>
     ensures time { IfOk result (IsTime (option_bytes word.now)) }
     ensures none { IfErr result (GivesNone (IsTime (option_bytes word.now))) }
@@ -105,7 +105,7 @@ fn time(alloc: Global, word: &Option<String>) -> Result<u64, WordsFault>
     }
 }
 
-/// The nanoseconds that a word writes: a whole number, with a unit or without.
+/// Returns the nanoseconds that a word writes: a whole number, with a unit or without.
 #[tactic(auto, using(crate::proofs::NamingLemmas::no_time))]
 fn time_in(word: &str) -> Option<u64>
     ensures some { IfSome result (WritesTime word.now) }
@@ -117,7 +117,7 @@ fn time_in(word: &str) -> Option<u64>
     }
 }
 
-/// The number of a processor that a word names; 0 without a word.
+/// Returns the number of a processor that a word names; 0 without a word.
 fn number(alloc: Global, word: &Option<String>) -> Result<u32, WordsFault>
     ensures number { IfOk result (IsNumberOrZero (2 ^ 32) (option_bytes word.now)) }
     ensures none { IfErr result (GivesNone (IsNumberOrZero (2 ^ 32) (option_bytes word.now))) }

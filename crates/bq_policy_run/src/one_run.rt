@@ -12,7 +12,7 @@ use bq_interp::{Ran, Snapshot, Stack, run, run_traced};
 use bq_verify::Verified;
 use std::alloc::AllocError;
 
-/// Whether the context has the length of the program's hook and version, and the maps have its shapes.
+/// Returns whether the context has the length of the program's hook and version, and the maps have its shapes.
 fn fits(verified: &Verified, inputs: &Inputs) -> bool
     ensures { IsTrue result ↔ FitsProgram verified.now inputs.now }
 {

@@ -30,7 +30,7 @@ pub enum Permission {
     NotShown,
 }
 
-/// What the rule says of the answer to this context, which has the length of the hook's contexts.
+/// Returns what the rule says of the answer to this context, which has the length of the hook's contexts.
 pub fn permission_of(hook: Hook, context: &[u8], r0: u64) -> Permission
     ensures { (version : VersionValue) → length context.now ≡ context_length_of hook version → result ≡ permission_of hook context.now r0 }
 {
@@ -52,7 +52,7 @@ fn place_permission(context: &[u8], r0: u64) -> Permission
     }
 }
 
-/// Whether the answer is a processor of the machine, in the task's mask.
+/// Returns whether the answer is a processor of the machine, in the task's mask.
 fn place_permits(context: &[u8], r0: u64) -> bool
     requires { 36 ≤ length context.now }
     ensures { result ≡ place_permits context.now r0 }
@@ -61,7 +61,7 @@ fn place_permits(context: &[u8], r0: u64) -> bool
     r0 < u64::from(count) && r0 < u64::from(PROCESSORS) && allows(mask, r0 as u8)
 }
 
-/// How many processors a place context shows, and the task's mask.
+/// Returns how many processors a place context shows, and the task's mask.
 pub fn place_shown(context: &[u8]) -> (u32, u64)
     requires { 36 ≤ length context.now }
     ensures count { result.0 ≡ context_number context.now 32 }
@@ -105,7 +105,7 @@ fn pull_permission(context: &[u8], r0: u64) -> Permission
     }
 }
 
-/// The number of the four bytes at that place.
+/// Returns the number of the four bytes at that place.
 fn number_at(context: &[u8], at: usize) -> u32
     requires { at + 4 ≤ length context.now }
     ensures { result ≡ context_number context.now at }
@@ -113,7 +113,7 @@ fn number_at(context: &[u8], at: usize) -> u32
     LittleEndian::read_u32(&context[at..at + 4])
 }
 
-/// Whether one of the tasks that are shown has that number.
+/// Returns whether one of the tasks that are shown has that number.
 fn shows_task(context: &[u8], r0: u64) -> bool
     requires { 160 ≤ length context.now }
     ensures { result ≡ shows_task context.now r0 }
@@ -128,7 +128,7 @@ fn shows_task(context: &[u8], r0: u64) -> bool
     false
 }
 
-/// Whether more tasks are movable than are shown.
+/// Returns whether more tasks are movable than are shown.
 fn hides_tasks(context: &[u8]) -> bool
     requires { 160 ≤ length context.now }
     ensures { result ≡ hides_tasks context.now }

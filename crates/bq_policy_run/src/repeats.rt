@@ -13,7 +13,7 @@ use std::alloc::Global;
 /// What a number of runs is.
 const RUNS: &str = with_32_bits!("a number of runs is at least 1, and below ", "");
 
-/// The number of runs before the last, of as many as a word says; 0 without a word.
+/// Returns the number of runs before the last, of as many as a word says; 0 without a word.
 pub(crate) fn runs_before(alloc: Global, word: &Option<String>) -> Result<u32, WordsFault>
     ensures before { IfOk result (IsCountBeforeLast (option_bytes word.now)) }
     ensures none { IfErr result (GivesNone (IsCountBeforeLast (option_bytes word.now))) }

@@ -78,7 +78,7 @@ fn run_policy<C: Clock>(
     }
 }
 
-/// The line that tells the verdict on a policy that is not accepted, and the line that names the command that explains it.
+/// Writes the line that tells the verdict on a policy that is not accepted, and the line that names the command that explains it.
 fn unaccepted_text(
     alloc: Global,
     words: &RunWords,
@@ -92,7 +92,7 @@ fn unaccepted_text(
     format!(in alloc; "{line}{more}")
 }
 
-/// The run of a program that is accepted.
+/// Runs a program that is accepted.
 fn run_verified<C: Clock>(
     alloc: Global,
     clock: &C,
@@ -127,7 +127,7 @@ struct Series {
     before: u32,
 }
 
-/// The last run of a series, on inputs of the program's hook; the line that says how long runs take comes last.
+/// Does the runs of a series, on inputs of the program's hook, and shows the last. The line that says how long runs take comes last.
 fn run_on(
     alloc: Global,
     words: &RunWords,
@@ -163,7 +163,7 @@ fn run_on(
     Ok(Answered::Done(text))
 }
 
-/// What runs changed of the bytes of maps that were there first, and the calls of the last of them.
+/// Writes what runs changed of the first bytes of maps, and the calls of the last run.
 fn changed_text(
     alloc: Global,
     first: &[Vec<u8>],
@@ -189,7 +189,7 @@ struct AnswerTail<'a> {
     line: &'a String,
 }
 
-/// What the run answered, what the rule says of that, and how many instructions it took; and what is shown after that.
+/// Writes what the run answered, what the rule says of that, and how many instructions it took; and what is shown after that.
 fn reported(
     alloc: Global,
     verified: &Verified,

@@ -9,7 +9,7 @@ use bq_verify::Verified;
 use std::alloc::{AllocError, Global};
 use std::time::Clock;
 
-/// The line that says how often the policy is run and how long a run takes on average, if the words say how often; empty
+/// Writes the line that says how often the policy is run and how long a run takes on average, if the words say how often; empty
 /// otherwise.
 pub(crate) fn time_line<C: Clock>(
     alloc: Global,
@@ -35,7 +35,7 @@ pub(crate) fn time_line<C: Clock>(
     }
 }
 
-/// How long this many runs take on inputs of their own, which the words name. None if the clock fails or goes back.
+/// Measures how long this many runs take on inputs of their own, which the words name. None if the clock fails or goes back.
 fn nanoseconds<C: Clock>(
     alloc: Global,
     clock: &C,
@@ -49,7 +49,7 @@ fn nanoseconds<C: Clock>(
     }
 }
 
-/// How long this many runs take on these inputs. None if the clock fails or goes back.
+/// Measures how long this many runs take on these inputs. None if the clock fails or goes back.
 fn time_on<C: Clock>(
     clock: &C,
     verified: &Verified,

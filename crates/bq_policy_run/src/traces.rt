@@ -10,7 +10,7 @@ use bq_policy_file::PolicySource;
 use bq_verify::Verified;
 use std::alloc::{AllocError, Global};
 
-/// The instructions that the run executed, if that is asked for; empty otherwise.
+/// Writes the instructions that the run executed, if that is asked for; empty otherwise.
 pub(crate) fn executed_text(
     alloc: Global,
     is_traced: bool,
@@ -27,7 +27,7 @@ pub(crate) fn executed_text(
     }
 }
 
-/// The place of each instruction, the instruction, and a line for each register that it changed.
+/// Writes the place of each instruction, the instruction, and a line for each register that it changed.
 fn steps_text(
     alloc: Global,
     policy: &PolicySource,
@@ -47,7 +47,7 @@ fn steps_text(
     Ok(text)
 }
 
-/// One instruction with its slot, and what it changed.
+/// Writes one instruction with its slot, and what it changed.
 fn step_text(
     alloc: Global,
     verified: &Verified,
@@ -62,7 +62,7 @@ fn step_text(
     format!(in alloc; "slot {slot}: {spelled}{changes}")
 }
 
-/// An instruction as it is listed, with the line's end.
+/// Writes an instruction as it is listed, with the line's end.
 fn slot_text(alloc: Global, insn: Option<Insn>) -> Result<String, AllocError>
     ensures { IfOk result (λ text. string_bytes text ≡ slot_listing insn) }
 {
@@ -72,7 +72,7 @@ fn slot_text(alloc: Global, insn: Option<Insn>) -> Result<String, AllocError>
     }
 }
 
-/// The registers that an instruction changed, by the snapshot at the next one.
+/// Writes the registers that an instruction changed, by the snapshot at the next one.
 fn changes_to(alloc: Global, snapshot: &Snapshot, after: &[Snapshot]) -> Result<String, AllocError>
     ensures { IfOk result (λ text. string_bytes text ≡ changes_to snapshot.now after.now) }
 {
@@ -82,7 +82,7 @@ fn changes_to(alloc: Global, snapshot: &Snapshot, after: &[Snapshot]) -> Result<
     }
 }
 
-/// The registers whose words differ, with the words that they have now.
+/// Writes the registers whose words differ, with the words that they have now.
 fn changes_text(alloc: Global, before: &Snapshot, now: &Snapshot) -> Result<String, AllocError>
     ensures { IfOk result (λ text. string_bytes text ≡ changes_below 11 before.now.registers now.now.registers) }
 {
@@ -96,7 +96,7 @@ fn changes_text(alloc: Global, before: &Snapshot, now: &Snapshot) -> Result<Stri
     Ok(text)
 }
 
-/// The line of the instruction at a slot and a comma, if the policy is a text.
+/// Writes the line of the instruction at a slot and a comma, if the policy is a text.
 fn place_of(alloc: Global, policy: &PolicySource, slot: usize) -> Result<String, AllocError> {
     let line = match index_at(policy.insns.as_slice(), slot) {
         Some(index) => policy.lines.get(index),

@@ -62,7 +62,7 @@ fn no_place_text(alloc: Global, r0: u64, count: u32, mask: u64) -> Result<String
     format!(in alloc; "not permitted: processor {r0} is not in mask 0x{mask:x}")
 }
 
-/// What to give if the context shows no processors; empty if it shows some.
+/// Says what to give if the context shows no processors; empty if it shows some.
 fn count_advice(count: u32) -> &'static str {
     match count {
         0 => "; give --set processors=4,mask=0xf",
