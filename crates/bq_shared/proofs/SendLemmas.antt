@@ -11,7 +11,7 @@ use Rattle.bq_bpf.proofs.board.CounterCall.TheSendSync as call
 use Rattle.bq_hooks.proofs.loads.Loads.TheSendSync as loads
 use Rattle.bq_installed.proofs.scratch.Scratch.TheSendSync as scratch
 use Rattle.bq_parts.proofs.SendLemmas.{cpu_send}
-use Rattle.bq_shared.proofs.answer.PackedAnswer.TheSendSync as answer
+use Rattle.bq_shared.proofs.packed_answer.PackedAnswer.TheSendSync as answer
 use Rattle.bq_parts.proofs.event.Event.TheSendSync as event
 use Rattle.bq_shared.specs.contracts.cells.NumberedCpu as Numbered
 use Rattle.bq_shared.specs.contracts.cells.NumberedInbox as NumberedInbox
