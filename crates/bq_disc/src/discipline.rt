@@ -13,7 +13,7 @@ use crate::limits::PROCESSORS;
 use crate::{Node, TaskOrder};
 
 /// A processor pulls a task only if the other one has at least this many more.
-const WORTH_A_PULL: usize = 2;
+pub const WORTH_A_PULL: usize = 2;
 
 /// A discipline, with its choices among tasks in order.
 pub trait Discipline {

@@ -5,7 +5,7 @@ ghost use Rattle.bq_insn.specs.Table.{opcode_of};
 
 use crate::form::Form;
 use crate::slot::Slot;
-use crate::{Bits, Condition, Insn, Operation, Order, Size, Source, Width};
+use crate::{Bits, Condition, Insn, Operation, Order, Source, Width};
 
 /// The slot that spells an instruction, and the second one if it is wide.
 pub fn slots_of(insn: Insn) -> (Slot, Option<Slot>)

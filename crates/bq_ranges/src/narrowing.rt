@@ -2,7 +2,7 @@
 ghost use Rattle.std.specs.Prelude.{◌≡◌, ◌≤◌, ◌<◌, ◌≢◌, ◌↔◌, ◌⊎◌, ℕ, IsTrue};
 ghost use Rattle.bq_bpf.specs.Meaning.{compares, modulus, taken};
 ghost use Rattle.bq_ranges.specs.Within.{Within, NarrowsTo, EndsAre};
-ghost use Rattle.bq_insn.specs.declared.Width.{Width as Wide};
+ghost use Rattle.bq_insn.specs.declared.Width.{Width as WidthValue};
 ghost use Rattle.bq_ranges.specs.Tight.{EndsTestAs, IsByOrder, IsSigned};
 
 use crate::range::{Range, greatest};
@@ -43,7 +43,7 @@ pub fn narrow_right(cond: Condition, width: Width, x: Range, y: Range, goes: boo
 
 /// Returns the test that answers the same with its operands exchanged.
 fn turned(cond: Condition) -> Condition
-    ensures { (width : Wide) (a b : ℕ) → taken width cond a b ≡ taken width result b a }
+    ensures { (width : WidthValue) (a b : ℕ) → taken width cond a b ≡ taken width result b a }
 {
     match cond {
         Condition::Greater => Condition::Less,

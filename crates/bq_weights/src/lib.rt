@@ -33,6 +33,8 @@ macro_rules! with_nice_values {
     };
 }
 
+/// The weights of the nice values from -20 to 19, as Linux has them (kernel/sched/core.c, `sched_prio_to_weight`). From one nice
+/// value to the next, the weight falls by a factor of about 1.25.
 static WEIGHTS: [u32; 40] = [
     88761, 71755, 56483, 46273, 36291, 29154, 23254, 18705, 14949, 11916, 9548, 7620, 6100, 4904,
     3906, 3121, 2501, 1991, 1586, 1277, 1024, 820, 655, 526, 423, 335, 272, 215, 172, 137, 110, 87,
