@@ -6,9 +6,8 @@ ghost use Rattle.bq_policy_run.specs.Runs.{FitsProgram};
 ghost use Rattle.bq_policy_run.specs.Running.{HasRun, RunsFile, RunsPolicy, RunsProgram, RunsTo, ReportsRun, BeginsWithVerdict, answer_line};
 
 use crate::explaining::explaining_line;
-use crate::named_inputs::inputs_named;
 use crate::repeats::runs_before;
-use crate::timing::time_line;
+use crate::timing::timed_inputs;
 use crate::traces::executed_text;
 use crate::word_text::word_text;
 use crate::{Inputs, copied, run_often, trace_once, write_calls, write_changes};
@@ -107,9 +106,8 @@ fn run_verified<C: Clock>(
         Err(WordsFault::Words(why)) => return Ok(Answered::Words(why)),
         Err(WordsFault::OutOfMemory) => return Err(AllocError),
     };
-    match inputs_named(alloc, words, verified) {
-        Ok(inputs) => {
-            let line = time_line(alloc, clock, words, verified)?;
+    match timed_inputs(alloc, clock, words, verified, before) {
+        Ok((inputs, line)) => {
             let mut series = Series { inputs, before };
             run_on(alloc, words, policy, verified, &mut series, &line)
         }

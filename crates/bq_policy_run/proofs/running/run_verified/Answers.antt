@@ -14,25 +14,25 @@ returns-in-Err-Words g c = inl (
       c.in-Err-Words.ensures.none,
 )
 
-pub returns-in_ok-line-in-Ok-inputs_named : goal.returns-in_ok-line-in-Ok-inputs_named
-returns-in_ok-line-in-Ok-inputs_named g c =
+pub returns-in-Ok-timed_inputs : goal.returns-in-Ok-timed_inputs
+returns-in-Ok-timed_inputs g c =
     IfOk-weaker c.run_on.result (HasRun c.args.words.now.report.is_traced (is_some c.args.words.now.report.repeat)
-    c.in-Ok.before c.args.verified.now c.in-Ok-inputs_named.inputs) (RunsProgram c.args.words.now c.args.verified.now)
+    c.in-Ok.before c.args.verified.now c.in-Ok-timed_inputs.inputs) (RunsProgram c.args.words.now c.args.verified.now)
     (λ answer ran.
-    inr (c.in-Ok.before, c.in-Ok.ensures.before, inr (c.in-Ok-inputs_named.inputs, c.in-Ok-inputs_named.ensures.names, ran)))
+    inr (c.in-Ok.before, c.in-Ok.ensures.before, inr (c.in-Ok-timed_inputs.inputs, c.in-Ok-timed_inputs.ensures.names, ran)))
     c.run_on.ensures
 
-pub returns-in-Err-Words-inputs_named : goal.returns-in-Err-Words-inputs_named
-returns-in-Err-Words-inputs_named g c = inr (
+pub returns-in-Err-Words-timed_inputs : goal.returns-in-Err-Words-timed_inputs
+returns-in-Err-Words-timed_inputs g c = inr (
   c.in-Ok.before,
   c.in-Ok.ensures.before,
   inl (
     (_, refl),
-    gives_none (HasInputs c.args.words.now c.args.verified.now) _ _ c.in-Err-Words-inputs_named.field-0-is
-        c.in-Err-Words-inputs_named.ensures.none,
+    gives_none (HasInputs c.args.words.now c.args.verified.now) _ _ c.in-Err-Words-timed_inputs.field-0-is
+        c.in-Err-Words-timed_inputs.ensures.none,
   ),
 )
 
 pub run_on-requires-clause-fits : goal.run_on-requires-clause-fits
 run_on-requires-clause-fits g c =
-    named_fits c.args.words.now c.args.verified.now c.in-Ok-inputs_named.inputs c.in-Ok-inputs_named.ensures.names
+    named_fits c.args.words.now c.args.verified.now c.in-Ok-timed_inputs.inputs c.in-Ok-timed_inputs.ensures.names
