@@ -254,9 +254,6 @@ fn head_reason(
     Ok(at_line(line, why))
 }
 
-/// The keys of such lines.
-const KEYS: [&str; 3] = ["hook", "maps", "format"];
-
 /// The most bytes of a word that a key may be near.
 const LONGEST: usize = 40;
 
@@ -281,9 +278,10 @@ fn near_key(
     }
     let mut best: Option<&'static str> = None;
     let mut near = Near::of(written);
-    for key in &KEYS {
-        if written != *key && near.takes(alloc, written, key)? {
-            best = Some(key);
+    for key in &Key::ALL {
+        let word = key.word();
+        if written != word && near.takes(alloc, written, word)? {
+            best = Some(word);
         }
     }
     Ok(best)

@@ -17,6 +17,9 @@ pub enum Key {
 }
 
 impl Key {
+    /// All keys: `of_word` finds each of them.
+    pub const ALL: [Key; 3] = [Key::Hook, Key::Maps, Key::Format];
+
     /// The word that names it in marks and options.
     pub fn word(self) -> &'static str
         ensures { result.now ≡ key_word self }
@@ -28,19 +31,14 @@ impl Key {
         }
     }
 
-    /// The key that a word names, if it names one.
+    /// Returns the key that a word names, if it names one.
     fn of_word(word: &[u8]) -> Option<Key>
         ensures { MatchOption result (is_key word.now ≡ false) (λ key. word.now ≡ key_word key) }
     {
-        if word == b"hook".as_slice() {
-            Some(Key::Hook)
-        } else if word == b"maps".as_slice() {
-            Some(Key::Maps)
-        } else if word == b"format".as_slice() {
-            Some(Key::Format)
-        } else {
-            None
-        }
+        Key::ALL
+            .iter()
+            .copied()
+            .find(|key| word == key.word().as_bytes())
     }
 }
 
