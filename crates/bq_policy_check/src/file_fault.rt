@@ -12,7 +12,7 @@ use bq_asm::AssemblyCause;
 use bq_asm_faults::{assembly_fault_text, with_nul_shown};
 use bq_console::{Lines, Name, Quoted};
 use bq_hooks::hook::{NO_HOOK, NO_VERSION};
-use bq_insn::fault::DecodeCause;
+use bq_object::is_object;
 use bq_policy_file::{Head, HeadCause, Key, PolicyFault, SHAPES_FORM, read_policy};
 use bq_words::Near;
 use serde_json::{Map, Value, put};
@@ -58,11 +58,6 @@ fn at_line(line: usize, why: String) -> FileFault {
         slot: None,
         why,
     }
-}
-
-/// Returns whether the file of these bytes is an object file.
-fn is_object(bytes: &[u8]) -> bool {
-    bytes.starts_with(b"\x7fELF")
 }
 
 /// The reason why an object file is no policy.
