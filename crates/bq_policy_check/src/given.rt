@@ -11,7 +11,7 @@ use bq_bpf::MapShape;
 use bq_console::{WordsFault, value_words, words_fault};
 use bq_hooks::{Hook, Version, with_hooks, with_versions};
 use bq_policy_file::{Head, shapes_of};
-use std::alloc::{AllocError, Global};
+use std::alloc::Global;
 
 /// What the value of `--hook` is.
 pub const HOOK: &str = with_hooks!("a hook is ");
