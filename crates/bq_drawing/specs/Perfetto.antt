@@ -17,8 +17,7 @@ use Rattle.bq_schedule.specs.Steps.{was_overruled}
 use Rattle.bq_report.specs.declared.window.Window.{Window}
 use Rattle.bq_report.specs.Names.{NamedTasks}
 use Rattle.bq_report.specs.Reports.{AreParts}
-use Rattle.bq_report.specs.Timehist.{IsShownMigration, IsShownWake}
-use Rattle.bq_report.specs.Windows.{IsShownPart, Shows, ShowsProcessor}
+use Rattle.bq_report.specs.Windows.{IsShownMigration, IsShownPart, IsShownWake, Shows, ShowsProcessor}
 use Rattle.bq_drawing.specs.declared.past_events.Arrows.{Arrows}
 use Rattle.bq_drawing.specs.declared.perfetto.ShownParts.{ShownParts}
 use Rattle.bq_drawing.specs.Events.{act_name, beginning_text, counter_text, end_text, event_track, instant_text, overruled_text, run_event, run_name, run_object, task_args, tracks_text}

@@ -6,7 +6,6 @@ ghost use Rattle.serde_json.specs.Written.{compact_text};
 ghost use Rattle.bq_schedule.specs.declared.slice.Slice.{Slice};
 ghost use Rattle.bq_report.specs.Names.{name_of};
 ghost use Rattle.bq_report.specs.Reports.{GrowsByPart};
-ghost use Rattle.bq_report.specs.Timehist.{IsShownMigration, IsShownWake};
 ghost use Rattle.bq_report.specs.Windows.{IsShownPart};
 ghost use Rattle.bq_drawing.specs.Events.{act_name, json_text, label_of, run_name, run_object};
 ghost use Rattle.bq_drawing.specs.PastEvents.{next_arrow, empty_past};
@@ -201,10 +200,10 @@ fn shown_of(window: &Window, change: &Change) -> ShownParts
 {
     ShownParts {
         overruled: shown_decision(window, change.decision, change.reading),
-        wake: shown_wake(window, change.wake),
+        wake: window.shown_wake(change.wake),
         pull: shown_pull(window, change.pull),
         run: window.shown_part(ended_run(change.stop)),
-        migration: shown_migration(window, change.start),
+        migration: window.shown_migration(change.start),
         reading: shown_reading(window, change.reading),
     }
 }
@@ -227,18 +226,6 @@ fn shown_decision(
     }
 }
 
-/// Returns the wake, if it is shown.
-fn shown_wake(window: &Window, wake: Option<Wake>) -> Option<Wake>
-    ensures { IsShownWake window.now wake result }
-{
-    let wake = wake?;
-    if window.shows(wake.from, wake.task, wake.at) {
-        Some(wake)
-    } else {
-        None
-    }
-}
-
 /// Returns the pull, if it is shown.
 fn shown_pull(window: &Window, pull: Option<PulledTask>) -> Option<PulledTask>
     ensures { IsShownPull window.now pull result }
@@ -246,18 +233,6 @@ fn shown_pull(window: &Window, pull: Option<PulledTask>) -> Option<PulledTask>
     let pull = pull?;
     if window.shows(pull.to, pull.task, pull.at) {
         Some(pull)
-    } else {
-        None
-    }
-}
-
-/// Returns the start of a task on another processor than before, if it is shown.
-fn shown_migration(window: &Window, start: Option<Start>) -> Option<Start>
-    ensures { IsShownMigration window.now start result }
-{
-    let start = start?;
-    if start.has_migrated() && window.shows(start.processor, start.task, start.at) {
-        Some(start)
     } else {
         None
     }

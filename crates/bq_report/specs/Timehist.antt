@@ -1,12 +1,11 @@
 -- The lines of `timehist`: which parts of a change are shown, and what they say.
-use Rattle.std.specs.Prelude.{◌≡◌, ℕ, zero, suc, true, List, [], ◌++◌, Option, Some, None, unwrap_or, codes}
+use Rattle.std.specs.Prelude.{◌≡◌, ℕ, zero, suc, List, [], ◌++◌, Option, Some, None, unwrap_or, codes}
 use Rattle.std.specs.Fmt.{decimal}
 use Rattle.std.specs.Option.{SomeIff}
 use Rattle.bq_schedule.specs.declared.change.Start.{Start}
 use Rattle.bq_schedule.specs.declared.change.Stop.{Stop}
 use Rattle.bq_schedule.specs.declared.change.Wake.{Wake}
 use Rattle.bq_schedule.specs.Figures.{Figures, processor_in_figures}
-use Rattle.bq_schedule.specs.Running.{has_migrated}
 use Rattle.bq_report.specs.declared.window.Window.{Window}
 use Rattle.bq_report.specs.Columns.{moment_columns, run_columns, task_columns}
 use Rattle.bq_report.specs.Names.{NamedTasks, name_of}
@@ -19,20 +18,10 @@ head_lines =
     ++ (codes "                                                 (msec)     (msec)     (msec)\n"
     ++ codes "--------------- ------  --------------------  ---------  ---------  ---------\n")
 
--- a wake is shown if the window shows the moment at which it ended
-abbrev pub IsShownWake : Window → Option Wake → Option Wake → Type 0
-IsShownWake w None part = part ≡ None
-IsShownWake w (Some k) part = SomeIff part (Shows w k.from k.task k.at) k
-
 -- a run is shown if the window shows the moment at which it ended
 abbrev pub IsShownStop : Window → Option Stop → Option Stop → Type 0
 IsShownStop w None part = part ≡ None
 IsShownStop w (Some s) part = SomeIff part (Shows w s.start.processor s.start.task s.at) s
-
--- a migration is shown if the window shows the moment at which the task starts running
-abbrev pub IsShownMigration : Window → Option Start → Option Start → Type 0
-IsShownMigration w None part = part ≡ None
-IsShownMigration w (Some s) part = SomeIff part ((has_migrated s ≡ true) × Shows w s.processor s.task s.at) s
 
 -- the run that still goes on when the schedule ends is shown if the window shows the last reading of its processor's clock
 abbrev pub IsShownRunner : Window → ℕ → ℕ → Option Start → Option Start → Type 0

@@ -1,9 +1,12 @@
 -- What is shown of a schedule.
-use Rattle.std.specs.Prelude.{◌≡◌, ℕ, ◌<◌, ◌≤◌, max, min, ◌⊎◌, [], Contains, Option, Some, None, IsTrue}
+use Rattle.std.specs.Prelude.{◌≡◌, ℕ, ◌<◌, ◌≤◌, max, min, ◌⊎◌, [], Contains, Option, Some, None, IsTrue, true}
 use Rattle.std.specs.Option.{SomeIff}
 use Rattle.bq_disc.specs.declared.limits.TheConstants.{PROCESSORS}
 use Rattle.bq_disc.specs.Masks.{allows}
+use Rattle.bq_schedule.specs.declared.change.Start.{Start}
+use Rattle.bq_schedule.specs.declared.change.Wake.{Wake}
 use Rattle.bq_schedule.specs.declared.slice.Slice.{Slice}
+use Rattle.bq_schedule.specs.Running.{has_migrated}
 use Rattle.bq_report.specs.declared.window.Window.{Window}
 
 -- a processor is in a set that is given by bits
@@ -40,3 +43,13 @@ pub record ShowsPart (w : Window) (s : Slice) : Type 0 where
 abbrev pub IsShownPart : Window → Option Slice → Option Slice → Type 0
 IsShownPart w None part = part ≡ None
 IsShownPart w (Some s) part = SomeIff part (ShowsPart w s) (part_in_window w s)
+
+-- a wake is shown if the window shows the moment at which it ended
+abbrev pub IsShownWake : Window → Option Wake → Option Wake → Type 0
+IsShownWake w None part = part ≡ None
+IsShownWake w (Some k) part = SomeIff part (Shows w k.from k.task k.at) k
+
+-- a migration is shown if the window shows the moment at which the task starts running
+abbrev pub IsShownMigration : Window → Option Start → Option Start → Type 0
+IsShownMigration w None part = part ≡ None
+IsShownMigration w (Some s) part = SomeIff part ((has_migrated s ≡ true) × Shows w s.processor s.task s.at) s

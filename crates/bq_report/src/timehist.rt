@@ -5,8 +5,8 @@ ghost use Rattle.bq_schedule.specs.declared.change.Stop.{Stop};
 ghost use Rattle.bq_schedule.specs.declared.change.Wake.{Wake};
 ghost use Rattle.bq_report.specs.Columns.{moment_columns, run_columns, thousandths_cell};
 ghost use Rattle.bq_report.specs.Names.{name_of};
-ghost use Rattle.bq_report.specs.Timehist.{AreLastLines, awakened_text, IsShownMigration, IsShownRunner, IsShownStop, IsShownWake, change_text, head_lines, migration_text, named_task, origin_text, runner_columns, runner_text, stop_text, target_text, wake_text};
-ghost use Rattle.bq_report.specs.Windows.{Shows};
+ghost use Rattle.bq_report.specs.Timehist.{AreLastLines, awakened_text, IsShownRunner, IsShownStop, change_text, head_lines, migration_text, named_task, origin_text, runner_columns, runner_text, stop_text, target_text, wake_text};
+ghost use Rattle.bq_report.specs.Windows.{IsShownMigration, IsShownWake, Shows};
 
 use crate::amounts::Decimals;
 use crate::form::ScheduleForm;
@@ -48,18 +48,6 @@ impl Timehist {
         Timehist { window }
     }
 
-    /// Returns the wake, if it is shown.
-    fn shown_wake(&self, wake: Option<Wake>) -> Option<Wake>
-        ensures { IsShownWake self.now wake result }
-    {
-        let wake = wake?;
-        if self.window.shows(wake.from, wake.task, wake.at) {
-            Some(wake)
-        } else {
-            None
-        }
-    }
-
     /// Returns the end of a run, if it is shown.
     fn shown_stop(&self, stop: Option<Stop>) -> Option<Stop>
         ensures { IsShownStop self.now stop result }
@@ -77,18 +65,6 @@ impl Timehist {
         ensures { IsTrue result ↔ Shows self.now start.now.processor start.now.task at }
     {
         self.window.shows(start.processor, start.task, at)
-    }
-
-    /// Returns the start of a task on another processor than before, if it is shown.
-    fn shown_migration(&self, start: Option<Start>) -> Option<Start>
-        ensures { IsShownMigration self.now start result }
-    {
-        let start = start?;
-        if start.has_migrated() && self.shows_run(&start, start.at) {
-            Some(start)
-        } else {
-            None
-        }
     }
 }
 
@@ -313,9 +289,9 @@ impl ScheduleForm for Timehist {
             × (string_bytes text.new ≡ string_bytes text.old ++ change_text names.now schedule.now wake stop migration)) }
         ensures unchanged { self.new ≡ self.old }
     {
-        let wake = self.shown_wake(change.wake);
+        let wake = self.window.shown_wake(change.wake);
         let stop = self.shown_stop(change.stop);
-        let migration = self.shown_migration(change.start);
+        let migration = self.window.shown_migration(change.start);
         write_change(text, wake, stop, migration, schedule, names)
     }
 

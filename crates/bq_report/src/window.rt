@@ -2,11 +2,11 @@
 ghost use Rattle.std.specs.Prelude.{◌≡◌, ◌-◌, ◌^◌, ◌↔◌, [], IsTrue};
 ghost use Rattle.std.specs.Option.{SomeIff};
 ghost use Rattle.bq_report.specs.Reports.{HasProcessor, HasTask};
-ghost use Rattle.bq_report.specs.Windows.{ShowsProcessor, ShowsTask, Shows, ShowsPart, IsShownPart, part_in_window};
+ghost use Rattle.bq_report.specs.Windows.{ShowsProcessor, ShowsTask, Shows, ShowsPart, IsShownMigration, IsShownPart, IsShownWake, part_in_window};
 
 use bq_disc::limits::PROCESSORS;
 use bq_disc::mask::allows;
-use bq_schedule::{Schedule, Slice};
+use bq_schedule::{Schedule, Slice, Start, Wake};
 use std::alloc::Global;
 
 /// What is shown of a schedule: a stretch of time, processors and tasks. A run is cut at the window's edges. What happens at one moment is
@@ -115,6 +115,30 @@ impl Window {
         match slice {
             Some(slice) => self.clip(&slice),
             None => None,
+        }
+    }
+
+    /// Returns the wake, if there is one and the moment at which it ended is shown.
+    pub fn shown_wake(&self, wake: Option<Wake>) -> Option<Wake>
+        ensures { IsShownWake self.now wake result }
+    {
+        let wake = wake?;
+        if self.shows(wake.from, wake.task, wake.at) {
+            Some(wake)
+        } else {
+            None
+        }
+    }
+
+    /// Returns the start of a task on another processor than before, if there is one and its moment is shown.
+    pub fn shown_migration(&self, start: Option<Start>) -> Option<Start>
+        ensures { IsShownMigration self.now start result }
+    {
+        let start = start?;
+        if start.has_migrated() && self.shows(start.processor, start.task, start.at) {
+            Some(start)
+        } else {
+            None
         }
     }
 }

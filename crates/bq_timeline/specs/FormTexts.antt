@@ -17,8 +17,8 @@ use Rattle.bq_report.specs.Names.{NamedTasks}
 use Rattle.bq_report.specs.Reports.{GrowsByPart, IsJsonReport, IsReport}
 use Rattle.bq_report.specs.AdmittedTasks.{with_admitted}
 use Rattle.bq_report.specs.Rows.{head_row, optional_slice_row}
-use Rattle.bq_report.specs.Timehist.{AreLastLines, IsShownMigration, IsShownStop, IsShownWake, change_text, head_lines}
-use Rattle.bq_report.specs.Windows.{IsShownPart}
+use Rattle.bq_report.specs.Timehist.{AreLastLines, IsShownStop, change_text, head_lines}
+use Rattle.bq_report.specs.Windows.{IsShownMigration, IsShownPart, IsShownWake}
 use Rattle.bq_words.specs.declared.discipline_name.DisciplineName.{DisciplineName}
 use Rattle.bq_drawing.specs.declared.picture_options.PictureOptions.{PictureOptions}
 use Rattle.bq_drawing.specs.PastEvents.{empty_past}
