@@ -13,15 +13,16 @@ use Rattle.bq_comparison.specs.declared.asked.ComparingFault.{ComparingFault}
 use Rattle.bq_comparison.specs.declared.asked.ComparingFault.TheVariants as fault
 use Rattle.bq_comparison.specs.declared.asked.TableForm.{TableForm}
 use Rattle.bq_comparison.specs.declared.asked.TableForm.TheVariants as table
+use Rattle.bq_comparison.specs.declared.asked.TheConstants.{MOST_SEEDS}
 
 -- a number from the least to the most
 abbrev pub number_between : ℕ → ℕ → Option ℕ → Option ℕ
 number_between least most None = None
 number_between least most (Some n) = if nat_le least n && nat_le n most then Some n else None
 
--- a number of seeds: decimal, from 1 to 1000
+-- a number of seeds: decimal, from 1 to the most that may be asked for
 abbrev pub seeds_in : List ℕ → Option ℕ
-seeds_in word = number_between 1 1000 (decimal_of word)
+seeds_in word = number_between 1 MOST_SEEDS (decimal_of word)
 
 -- the number of seeds, if the words are right: one, if none of them says how many
 abbrev pub seeds_asked : Option (String Global) → Option ℕ

@@ -81,7 +81,7 @@ pub fn asked_comparison(
     // None if the words ask for neither seeds nor other policies. Otherwise as many seeds as they say, in the window and the
     // form that they name; then they name no stretch of time.
     ensures asked { IfOk result (AskFor words.now) }
-    ensures bound { IfOk result (λ asked. IfSome asked (λ c. (1 ≤ c.seeds) × (c.seeds ≤ 1000))) }
+    ensures bound { IfOk result (λ asked. IfSome asked (λ c. (1 ≤ c.seeds) × (c.seeds ≤ MOST_SEEDS))) }
 
     // The fault names a word that is not of its kind, or a stretch of time is named.
     ensures fault { IfErr result (IsNoComparison words.now) }
@@ -155,7 +155,7 @@ impl Comparing {
 /// Reads a number of seeds, if the word is one.
 fn seeds_of(word: &str) -> Option<u16>
     ensures value { result ≡ seeds_in word.now }
-    ensures bound { IfSome result (λ n. (1 ≤ n) × (n ≤ 1000)) }
+    ensures bound { IfSome result (λ n. (1 ≤ n) × (n ≤ MOST_SEEDS)) }
 {
     let seeds = bq_words::quantities::decimal(word.as_bytes())?;
     if 1 <= seeds && seeds <= MOST_SEEDS {
