@@ -26,19 +26,19 @@ abbrev pub rows_beside : ℕ → List FigureRow → Option OtherSide → List Fi
 rows_beside place [] theirs = []
 rows_beside place (row ∷ rows) theirs = row_beside place row theirs ∷ rows_beside (place + 1) rows theirs
 
--- the mean is 0
-abbrev pub is_nothing : Option ℕ → Bool
-is_nothing None = false
-is_nothing (Some mean) = mean == 0
+-- there is a mean, and it is 0
+abbrev pub is_mean_zero : Option ℕ → Bool
+is_mean_zero None = false
+is_mean_zero (Some mean) = mean == 0
 
 -- our mean is 0, and so is the mean of the other side, if there is one
 abbrev pub nothing_beside : Option FigureRow → Bool → Bool
 nothing_beside None ours = ours
-nothing_beside (Some theirs) ours = ours && is_nothing theirs.mean
+nothing_beside (Some theirs) ours = ours && is_mean_zero theirs.mean
 
 -- the means are 0 on both sides
 abbrev pub is_zero : FigureLine → Bool
-is_zero line = nothing_beside line.theirs (is_nothing line.ours.mean)
+is_zero line = nothing_beside line.theirs (is_mean_zero line.ours.mean)
 
 -- a line of a figure belongs to the window
 abbrev pub IsShownAs : Window → FigureLine → Figure → Type 0

@@ -1,6 +1,6 @@
 //! Figures side by side.
 ghost use Rattle.std.specs.Prelude.{◌≡◌, ◌↔◌, IsTrue, IfOk};
-ghost use Rattle.bq_comparison.specs.Lines.{IsLineShown, Selects, rows_beside, is_nothing, paired_at, row_at, is_zero};
+ghost use Rattle.bq_comparison.specs.Lines.{IsLineShown, Selects, rows_beside, is_mean_zero, paired_at, row_at, is_zero};
 
 use crate::sides::Sides;
 use crate::{Figure, FigureRow, PairedRow};
@@ -37,15 +37,15 @@ impl FigureLine {
         ensures { result ≡ is_zero self.now }
     {
         match &self.theirs {
-            Some(theirs) => is_nothing(self.ours.mean) && is_nothing(theirs.mean),
-            None => is_nothing(self.ours.mean),
+            Some(theirs) => is_mean_zero(self.ours.mean) && is_mean_zero(theirs.mean),
+            None => is_mean_zero(self.ours.mean),
         }
     }
 }
 
-/// Returns whether a mean is 0.
-fn is_nothing(mean: Option<u128>) -> bool
-    ensures { result ≡ is_nothing mean }
+/// Tells whether there is a mean and it is 0.
+fn is_mean_zero(mean: Option<u128>) -> bool
+    ensures { result ≡ is_mean_zero mean }
 {
     mean == Some(0)
 }
