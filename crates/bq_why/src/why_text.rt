@@ -241,19 +241,19 @@ impl WhyForm {
             && at <= self.window.to
             && self.window.shows_processor(processor)
             && (self.window.tasks.is_empty()
-                || self.shows_either(task)
-                || self.shows_either(self.ran_before))
+                || self.shows_if_any(task)
+                || self.shows_if_any(self.ran_before))
     }
 
-    /// Tells whether the window shows this task. False if there is no task.
-    fn shows_either(&self, task: Option<u16>) -> bool {
+    /// Tells whether there is a task and the window shows it.
+    fn shows_if_any(&self, task: Option<u16>) -> bool {
         match task {
             Some(task) => self.window.shows_task(task),
             None => false,
         }
     }
 
-    /// Adds the choice of a processor at which nothing ran.
+    /// Adds the discipline's choice at a processor after its task went to sleep, or after a pull while nothing ran.
     fn write_start(
         &self,
         text: &mut String,
