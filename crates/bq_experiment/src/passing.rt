@@ -12,7 +12,9 @@ use std::alloc::AllocError;
 use std::io::Write;
 
 /// A sink, with the writers of its text and notes. Both are written once the text has a piece's length, or there is a note; notes
-/// first. If a write of the text fails, `receive` fails.
+/// first.
+///
+/// `receive` fails if memory runs out or a write of the text fails. A sink has only `AllocError` for both; `is_failed` tells them apart.
 #[derive(Drop)]
 pub struct Passing<'a, S, W, E> {
     pub sink: S,
@@ -74,12 +76,11 @@ impl<S: Texts, W: Write, E: Write> Passing<'_, S, W, E> {
         Ok(())
     }
 
-    /// Writes the notes and the text, and clears both.
+    /// Writes the notes and the text, and clears both. A failed write of the text is an `AllocError` too, and sets `is_failed`.
     fn empty(&mut self) -> Result<(), AllocError>
         ensures { OnOk result (Empties S.pending S.clears self.old.sink (W.contents (counted_inner self.old.output)) self.new.sink (W.contents (counted_inner self.new.output))) }
     {
         let _ = self.errors.write_all(self.sink.notes().as_bytes());
-        // A sink can fail only by `AllocError`. `is_failed` tells a failed write from memory that ran out.
         if self.write_text().is_err() {
             return Err(AllocError);
         }
@@ -102,6 +103,8 @@ impl<S: Texts, W: Write, E: Write> Passing<'_, S, W, E> {
 impl<S: Sink + Texts, W: Write, E: Write> Sink for Passing<'_, S, W, E> {
     ghost takes = { λ old n traced new. TakesAndPasses S.takes S.pending S.clears old.sink (W.contents (counted_inner old.output)) n traced new.sink (W.contents (counted_inner new.output)) };
 
+    /// Receives an event, and writes what has come once it is a piece, or there is a note. If a write of the text fails, the answer is
+    /// `AllocError`, as if memory had run out, and `is_failed` is true.
     fn receive(&mut self, number: u64, event: &TraceEvent<'_>) -> Result<(), AllocError> {
         if let TraceEvent::Comes { event, .. } = event {
             self.progress.count(event);

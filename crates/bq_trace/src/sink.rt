@@ -17,6 +17,7 @@ pub trait Sink {
     ghost takes: { Self → ℕ → TraceEventValue → Self → Type 0 };
 
     /// Receives an event. `number` is the number of its line, from 1. It is 0 for a comment that a simulation puts above the trace.
+    /// Fails only by `AllocError`. A sink that also writes notes for itself whether a write failed.
     fn receive(&mut self, number: u64, event: &TraceEvent<'_>) -> Result<(), AllocError>
         ensures { OnOk result (takes self.old number (event_of event.now) self.new) };
 }
