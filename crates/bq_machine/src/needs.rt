@@ -8,7 +8,7 @@ use crate::clock::Clock;
 use crate::machine::Machine;
 use bq_disc::RunQueue;
 use bq_history::{Naming, Room};
-use bq_parts::{Event, Refusal};
+use bq_parts::Refusal;
 use bq_shared::{CallRooms, Counting, Record, call_rooms, record_room};
 use std::alloc::Global;
 
