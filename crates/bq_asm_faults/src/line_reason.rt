@@ -1,4 +1,6 @@
 //! Why the assembler refuses a line.
+ghost use Rattle.std.specs.Prelude.{◌≡◌, ◌==◌, ◌||◌};
+
 use crate::forms::form_of;
 use crate::number_reason::number_reason;
 use crate::vocabulary::nearest;
@@ -94,7 +96,9 @@ pub(crate) fn first_word(written: &str) -> &str {
 }
 
 /// Returns whether the letter separates words: a space, a tab or a comma.
-pub(crate) fn is_between(letter: char) -> bool {
+pub(crate) fn is_between(letter: char) -> bool
+    ensures { result ≡ (letter == 32 || letter == 9 || letter == 44) }
+{
     letter == ' ' || letter == '\t' || letter == ','
 }
 

@@ -1,4 +1,9 @@
 //! What a file holds, by its first line that says something.
+ghost use Rattle.std.specs.Prelude.{◌≡◌, ◌≢◌};
+ghost use Rattle.std.specs.Str.{IsUtf8};
+ghost use Rattle.bq_policy_file.specs.Files.{kind_of};
+ghost use Rattle.bq_policy_file.specs.declared.kind.FileKind.TheVariants.{Image};
+
 use bq_asm::named;
 use bq_policy_file::{FileKind, kind_of};
 use std::str::from_utf8;
@@ -38,7 +43,10 @@ const BEGINNINGS_OF_C: [&str; 9] = [
 /// workload or of a trace.
 ///
 /// `machine cfs 2` begins a trace, `[machine]` a workload, `mov64 r0, 0` or `;@ hook place` a policy, and `#include "bqsim.h"` C.
-pub fn kind_of_text(bytes: &[u8]) -> TextKind {
+pub fn kind_of_text(bytes: &[u8]) -> TextKind
+    ensures image { kind_of bytes.now ≡ Image → result ≡ TextKind.Policy }
+    ensures no_text { kind_of bytes.now ≢ Image → ¬ IsUtf8 bytes.now → result ≡ TextKind.Other }
+{
     if kind_of(bytes) == FileKind::Image {
         return TextKind::Policy;
     }

@@ -24,7 +24,7 @@ task_of_figure (StillWaiting id) = Some id
 task_of_figure (Processor processor f) = None
 task_of_figure (Hook processor at f) = None
 
--- the name of the task that a figure is of, among the names of all tasks; empty if there is none
+-- the name of the task that a figure is of, among the names of all tasks; empty if no task is there
 abbrev pub name_of_figure : Figure → List (String Global) → List ℕ
 name_of_figure figure names =
     unwrap_or (option_map (λ name. string_bytes name) (option_and_then (λ task. slice_get names task) (task_of_figure figure))) []
