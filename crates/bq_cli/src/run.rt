@@ -1,7 +1,6 @@
 //! `run`: one run of a policy, or several.
-ghost use Rattle.std.specs.Prelude.{◌≡◌, IfOk, codes};
-ghost use Rattle.clap.specs.Words.{first_of, found_of, rows_of};
-ghost use Rattle.bq_policy_check.specs.Given.{option_bytes};
+ghost use Rattle.std.specs.Prelude.{IfOk, codes};
+ghost use Rattle.clap.specs.Words.{found_of, rows_of};
 ghost use Rattle.bq_cli.specs.Words.{AreAll, AreRunWords, AreReportWords, IsFirstWord};
 
 use crate::answer::written_answer;
