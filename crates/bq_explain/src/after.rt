@@ -9,7 +9,7 @@ use bq_bpf::instruction::{destination, is_counter_call};
 use bq_insn::{Condition, Insn, Source, Width};
 use bq_states::abstract_state::AbstractState;
 use bq_states::learnt::learn_branch;
-use bq_states::registers::{known, operand};
+use bq_states::registers::{FRAME_REGISTER, known, operand};
 use bq_states::relations::Relation;
 use bq_transfer::counters::ask;
 use bq_transfer::sides::{right_side, side};
@@ -120,7 +120,7 @@ fn test_of(insn: Insn) -> Option<BranchTest> {
 
 /// Makes the state the one after the test, on that side; false if no run leaves the test there.
 fn follow_side(state: &mut AbstractState, test: BranchTest, is_taken: bool) -> bool {
-    if test.dst >= 10 {
+    if test.dst >= FRAME_REGISTER {
         return false;
     }
     let Some(right) = operand(state, test.src) else {
@@ -180,7 +180,7 @@ fn spares_frame(insn: Insn) -> bool
     ensures { IsTrue result → WritesBelowFrame insn }
 {
     match destination(insn) {
-        Some(register) => register < 10,
+        Some(register) => register < FRAME_REGISTER,
         None => true,
     }
 }

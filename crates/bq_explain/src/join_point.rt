@@ -5,7 +5,7 @@ ghost use Rattle.bq_explain.specs.Makers.{CanBeWalked};
 
 use crate::after::known_after;
 use crate::program_point::{ProgramPoint, place_at};
-use crate::ways::{Ways, is_marked, reaching, spares};
+use crate::ways::{Ways, find_reaching, is_marked, spares};
 use bq_bpf::MapShape;
 use bq_insn::{Insn, SLOTS};
 use bq_policy_file::PolicySource;
@@ -43,7 +43,7 @@ pub struct IncomingWay {
 
 /// Finds the last slot on the ways to `slot` into which two ways bring different words in the register, which no later
 /// instruction writes.
-pub(crate) fn join_point_of(
+pub(crate) fn find_join_point(
     alloc: Global,
     policy: &PolicySource,
     slots: &[Option<Insn>],
@@ -55,17 +55,17 @@ pub(crate) fn join_point_of(
     requires walkable { CanBeWalked slots.now }
     requires inside { slot < length slots.now }
 {
-    let reaching = reaching(alloc, slots, ways, register, slot)?;
+    let reaching = find_reaching(alloc, slots, ways, register, slot)?;
     let mut tried: usize = 0;
     for back in 0..slot {
         let here = slot - back;
         let is_on_way = here == slot
             || (is_marked(reaching.as_slice(), here) && spares(slots, register, here));
         if tried < TRIED && is_on_way {
-            let from = predecessors(alloc, slots, here)?;
+            let from = find_predecessors(alloc, slots, here)?;
             if from.len() > 1 {
                 tried = tried.saturating_add(1);
-                let incoming_ways = incoming_ways(
+                let incoming_ways = find_incoming_ways(
                     alloc,
                     policy,
                     slots,
@@ -74,7 +74,7 @@ pub(crate) fn join_point_of(
                     here,
                     register,
                 )?;
-                if let Some(pair) = differing(
+                if let Some(pair) = find_differing(
                     policy.form.shapes.as_slice(),
                     incoming_ways.as_slice(),
                 ) {
@@ -88,7 +88,11 @@ pub(crate) fn join_point_of(
 }
 
 /// Lists the slots from which control may go to the slot `to`.
-fn predecessors(alloc: Global, slots: &[Option<Insn>], to: usize) -> Result<Vec<usize>, AllocError>
+fn find_predecessors(
+    alloc: Global,
+    slots: &[Option<Insn>],
+    to: usize,
+) -> Result<Vec<usize>, AllocError>
     requires short { length slots.now ≤ SLOTS }
     requires sound { IsGraphSound slots.now }
 {
@@ -123,7 +127,7 @@ fn is_to(target: Option<usize>, to: usize) -> bool {
 }
 
 /// Lists the ways from these slots into the slot `to` on which something is known of the register.
-fn incoming_ways(
+fn find_incoming_ways(
     alloc: Global,
     policy: &PolicySource,
     slots: &[Option<Insn>],
@@ -161,7 +165,7 @@ pub(crate) fn known_at(states: &KnownStates, slot: usize, register: u8) -> Optio
 }
 
 /// Pairs the first of the ways with one on which the register holds a different word.
-fn differing(shapes: &[MapShape], incoming_ways: &[IncomingWay]) -> Option<WayPair> {
+fn find_differing(shapes: &[MapShape], incoming_ways: &[IncomingWay]) -> Option<WayPair> {
     let [first, rest @ ..] = incoming_ways else {
         return None;
     };

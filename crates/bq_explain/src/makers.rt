@@ -5,7 +5,7 @@ ghost use Rattle.bq_explain.specs.Makers.{AreLeading, AreOnTrail, IsMaker, IsOnT
 ghost use Rattle.bq_explain.specs.declared.makers.Maker.{Maker as MakerValue};
 ghost use Rattle.bq_verify.specs.Straight.{spares};
 
-use crate::ways::{Ways, is_marked, reaching};
+use crate::ways::{Ways, find_reaching, is_marked};
 use bq_bpf::instruction::destination;
 use bq_insn::{Insn, REGISTERS, SLOTS};
 use bq_needs::{Registers, read_registers};
@@ -24,18 +24,21 @@ enum Role {
     Leads,
 }
 
+/// The number of registers that a call does not keep: r0 to r5 (RFC 9669 section 2.2).
+const CLOBBERED: u8 = 6;
+
 /// Whether the instruction writes the register; a call answers in r0 and ends what r1 to r5 held.
 pub(crate) fn writes(insn: Insn, register: u8) -> bool
     ensures { MatchBool result (spares register (Some insn) ≡ false) (spares register (Some insn) ≡ true) }
 {
     match insn {
-        Insn::Call { .. } => register < 6,
-        _ => names(destination(insn), register),
+        Insn::Call { .. } => register < CLOBBERED,
+        _ => is_register(destination(insn), register),
     }
 }
 
 /// Whether the register that is written, if any, is this one.
-fn names(written: Option<u8>, register: u8) -> bool
+fn is_register(written: Option<u8>, register: u8) -> bool
     ensures { IsTrue result ↔ (written ≡ Some register) }
 {
     match written {
@@ -64,7 +67,7 @@ fn one_leads_on(leading: &[bool], targets: Targets) -> bool
 }
 
 /// The instructions whose value the register may hold at the slot, the nearest first.
-pub(crate) fn makers(
+pub(crate) fn find_makers(
     alloc: Global,
     slots: &[Option<Insn>],
     register: u8,
@@ -76,12 +79,12 @@ pub(crate) fn makers(
     ensures { IfOk result (λ makers. (made : ℕ) → Contains makers.items made ↔ IsMaker slots.now register slot made) }
 {
     let mut leading = vec![in alloc; false; slots.len()]?;
-    find_makers(alloc, slots, register, slot, leading.as_mut_slice())
+    sweep_makers(alloc, slots, register, slot, leading.as_mut_slice())
 }
 
-/// Finds what `makers` answers. `leading` marks the slots from which a way that spares the register leads to the slot; at first
+/// Finds what `find_makers` answers. `leading` marks the slots from which a way that spares the register leads to the slot; at first
 /// it marks none.
-fn find_makers(
+fn sweep_makers(
     alloc: Global,
     slots: &[Option<Insn>],
     register: u8,
@@ -144,7 +147,7 @@ const MOST_MAKERS: usize = 6;
 
 /// The instructions whose values the asked registers may hold at the slot, the nearest first, and then the instructions whose
 /// values those read, and so on; each on a way that a run may take.
-pub(crate) fn trail(
+pub(crate) fn find_makers_on_trail(
     alloc: Global,
     slots: &[Option<Insn>],
     ways: &Ways,
@@ -205,8 +208,8 @@ fn push_makers(
 {
     for register in 0..REGISTERS as u8 {
         if asked[usize::from(register)] {
-            let made = makers(alloc, slots, register, slot)?;
-            let reaching = reaching(alloc, slots, ways, register, slot)?;
+            let made = find_makers(alloc, slots, register, slot)?;
+            let reaching = find_reaching(alloc, slots, ways, register, slot)?;
             push_named(register, made.as_slice(), reaching.as_slice(), trail)?;
         }
     }

@@ -11,7 +11,7 @@ ghost use Rattle.bq_explain.specs.Verdicts.{IsRefusedPolicy};
 use crate::advice::{Advice, graph_advice, only, state_advice};
 use crate::graph_fault::{GraphFault, graph_fault, label_on};
 use crate::program_point::{ProgramPoint, place_at};
-use crate::trail::{Trail, no_trail, trail_of};
+use crate::trail::{Trail, find_trail, no_trail};
 use bq_insn::{Insn, REGISTERS};
 use bq_needs::{Argument, Need, Registers, need_of};
 use bq_policy_file::PolicySource;
@@ -128,7 +128,7 @@ fn state_refusal(
     let states = known_states(alloc, &program, place.slot)?;
     let finding = finding_of(policy, &states, place, cause);
     let asked = asked_in(finding);
-    let trail = trail_of(alloc, policy, slots, &states, place.slot, &asked)?;
+    let trail = find_trail(alloc, policy, slots, &states, place.slot, &asked)?;
     let advice = state_advice(policy, place.insn, finding, &trail);
     Ok(ExplainedRefusal {
         place,

@@ -5,14 +5,15 @@ ghost use Rattle.bq_explain.specs.Explained.{AreMade, AreOf, IsMadeBy};
 ghost use Rattle.bq_explain.specs.Makers.{CanBeWalked};
 ghost use Rattle.bq_explain.specs.TrailTexts.{leaves_unset};
 
-use crate::join_point::{JoinPoint, join_point_of, known_at, known_behind};
-use crate::makers::{Maker, makers, trail};
+use crate::join_point::{JoinPoint, find_join_point, known_at, known_behind};
+use crate::makers::{Maker, find_makers, find_makers_on_trail};
 use crate::program_point::{ProgramPoint, place_at};
-use crate::ways::{Ways, is_marked, reaching, spares, ways_before};
+use crate::ways::{Ways, find_reaching, find_ways_before, is_marked, spares};
 use bq_insn::{Insn, REGISTERS, SLOTS};
 use bq_needs::{Registers, read_registers};
 use bq_policy_file::PolicySource;
 use bq_states::abstract_state::AbstractValue;
+use bq_states::registers::{CONTEXT_REGISTER, FRAME_REGISTER};
 use bq_verify::KnownStates;
 use std::alloc::{AllocError, Global};
 
@@ -85,7 +86,7 @@ pub(crate) fn no_trail(alloc: Global) -> Trail
 }
 
 /// Finds where the asked registers come from, as they are at the slot.
-pub(crate) fn trail_of(
+pub(crate) fn find_trail(
     alloc: Global,
     policy: &PolicySource,
     slots: &[Option<Insn>],
@@ -97,9 +98,9 @@ pub(crate) fn trail_of(
     requires inside { slot < length slots.now }
     ensures { IfOk result (λ trail. AreMade slots.now slot asked.now trail.makers.items) }
 {
-    let ways = ways_before(alloc, slots, states, slot)?;
-    let found = trail(alloc, slots, &ways, slot, asked)?;
-    let makers = made_by(alloc, policy, slots, states, found.as_slice())?;
+    let ways = find_ways_before(alloc, slots, states, slot)?;
+    let found = find_makers_on_trail(alloc, slots, &ways, slot, asked)?;
+    let makers = locate_makers(alloc, policy, slots, states, found.as_slice())?;
     let unset = unset_from_start(alloc, slots, &ways, slot, asked)?;
     let clobbered = clobbered_by_calls(alloc, slots, states, &ways, slot, asked)?;
     let asked = AskedRegisters {
@@ -107,7 +108,7 @@ pub(crate) fn trail_of(
         registers: *asked,
         makers: 0,
     };
-    let joins = joins(
+    let joins = find_joins(
         alloc,
         policy,
         slots,
@@ -125,7 +126,7 @@ pub(crate) fn trail_of(
 }
 
 /// Finds the place of each maker, and what is known of the register after that instruction.
-fn made_by(
+fn locate_makers(
     alloc: Global,
     policy: &PolicySource,
     slots: &[Option<Insn>],
@@ -136,7 +137,7 @@ fn made_by(
 {
     let mut made = Vec::new(alloc);
     for maker in makers {
-        if let Some(one) = made_of(policy, slots, states, *maker) {
+        if let Some(one) = locate_maker(policy, slots, states, *maker) {
             made.push(one)?;
         }
     }
@@ -144,7 +145,7 @@ fn made_by(
 }
 
 /// Finds the place of the maker, and what is known of the register after that instruction.
-fn made_of(
+fn locate_maker(
     policy: &PolicySource,
     slots: &[Option<Insn>],
     states: &KnownStates,
@@ -180,8 +181,8 @@ fn unset_from_start(
     let mut unset = [false; REGISTERS];
     for register in 0..REGISTERS as u8 {
         let at = usize::from(register);
-        if asked[at] && register != 1 && register != 10 {
-            let reaching = reaching(alloc, slots, ways, register, slot)?;
+        if asked[at] && register != CONTEXT_REGISTER && register != FRAME_REGISTER {
+            let reaching = find_reaching(alloc, slots, ways, register, slot)?;
             unset[at] = slot == 0
                 || (is_marked(reaching.as_slice(), 0) && spares(slots, register, 0));
         }
@@ -228,11 +229,11 @@ fn calls_before(
     requires short { length slots.now ≤ SLOTS }
     requires sound { IsGraphSound slots.now }
 {
-    let made = makers(alloc, slots, register, slot)?;
-    let reaching = reaching(alloc, slots, ways, register, slot)?;
+    let made = find_makers(alloc, slots, register, slot)?;
+    let reaching = find_reaching(alloc, slots, ways, register, slot)?;
     let mut calls = Vec::new(alloc);
     for maker in made.as_slice() {
-        if is_marked(reaching.as_slice(), *maker) && is_call(slots, register, *maker) {
+        if is_marked(reaching.as_slice(), *maker) && is_clobbered_at(slots, register, *maker) {
             calls.push(*maker)?;
         }
     }
@@ -250,7 +251,7 @@ fn is_known_before(states: &KnownStates, calls: &[usize], register: u8) -> bool 
 }
 
 /// Whether the instruction at the slot is a call that leaves the register unset.
-fn is_call(slots: &[Option<Insn>], register: u8, slot: usize) -> bool {
+fn is_clobbered_at(slots: &[Option<Insn>], register: u8, slot: usize) -> bool {
     match slots.get(slot).copied() {
         Some(Some(insn)) => leaves_unset(insn, register),
         _ => false,
@@ -258,7 +259,7 @@ fn is_call(slots: &[Option<Insn>], register: u8, slot: usize) -> bool {
 }
 
 /// Lists the join points of the asked registers, and of the registers that the makers read.
-fn joins(
+fn find_joins(
     alloc: Global,
     policy: &PolicySource,
     slots: &[Option<Insn>],
@@ -307,9 +308,11 @@ fn push_joins(
     }
     for register in 0..REGISTERS as u8 {
         if asked.registers[usize::from(register)] && joins.len() < JOINS {
-            let made = makers(alloc, slots, register, asked.slot)?;
+            let made = find_makers(alloc, slots, register, asked.slot)?;
             if made.len() >= asked.makers {
-                let join = join_point_of(alloc, policy, slots, states, ways, register, asked.slot)?;
+                let join = find_join_point(
+                    alloc, policy, slots, states, ways, register, asked.slot,
+                )?;
                 push_new(join, joins)?;
             }
         }

@@ -18,7 +18,7 @@ pub(crate) struct Ways {
 }
 
 /// Finds where runs may go from each slot before `slot`.
-pub(crate) fn ways_before(
+pub(crate) fn find_ways_before(
     alloc: Global,
     slots: &[Option<Insn>],
     states: &KnownStates,
@@ -86,7 +86,7 @@ pub(crate) fn is_marked(list: &[bool], slot: usize) -> bool {
 }
 
 /// Marks each slot from which a run may come to `slot` so that no later instruction on its way writes the register.
-pub(crate) fn reaching(
+pub(crate) fn find_reaching(
     alloc: Global,
     slots: &[Option<Insn>],
     ways: &Ways,

@@ -11,8 +11,8 @@ known_states-requires c = rw c.in_ok-program.ensures.insns c.args.policy.now.who
 pub finding_of-finding-requires-clause-known : goal.finding_of-finding-requires-clause-known
 finding_of-finding-requires-clause-known c = rw (← c.in_ok-program.ensures.judged) c.in_ok-states.ensures
 
-pub trail_of-requires-clause-walkable : goal.trail_of-requires-clause-walkable
-trail_of-requires-clause-walkable c = record {
+pub find_trail-requires-clause-walkable : goal.find_trail-requires-clause-walkable
+find_trail-requires-clause-walkable c = record {
   short = rw c.requires.slots (few_slots c.args.policy.now.insns.items c.args.policy.now.whole);
   sound =
       faultless_sound c.args.policy.now.insns.items c.args.slots.now c.requires.slots

@@ -5,8 +5,8 @@ use Rattle.bq_insn.specs.declared.Insn.{Insn}
 use Rattle.bq_explain.specs.Explained.{AreOf, IsMadeBy}
 use Rattle.bq_explain.specs.declared.makers.Maker.{Maker}
 use Rattle.bq_explain.specs.declared.trail.RegisterMaker.{RegisterMaker}
-use Rattle.bq_explain.proofs.trail.made_by.Goals.{in-Some+in_ok-push, in_default}
-use Rattle.bq_explain.proofs.trail.made_by.Goals as goal
+use Rattle.bq_explain.proofs.trail.locate_makers.Goals.{in-Some+in_ok-push, in_default}
+use Rattle.bq_explain.proofs.trail.locate_makers.Goals as goal
 
 -- one more of them
 one_more : (slots : List (Option Insn)) (makers : List Maker) (maker : Maker) (old new : List RegisterMaker)
@@ -22,9 +22,9 @@ one_more slots makers maker old new one in_makers of is were other there =
 
 pub loop-maker-preserved : goal.loop-maker-preserved
 loop-maker-preserved c =
-    elim c.match-made_of.branch [
+    elim c.match-locate_maker.branch [
       | in-Some+in_ok-push w ↦
-          one_more c.args.slots.now c.args.makers.now _ c.loop-maker.made.items c.match-made_of.made.items w.in-Some.one
+          one_more c.args.slots.now c.args.makers.now _ c.loop-maker.made.items c.match-locate_maker.made.items w.in-Some.one
           (Contains-get_or c.args.makers.now c.loop-maker.maker-index _ c.loop-maker-test.true) w.in-Some.ensures
           (rw w.made-is w.in_ok-push.ensures.items) c.loop-maker.invariant
       | in_default w ↦ rw w.made-is c.loop-maker.invariant

@@ -4,7 +4,7 @@ use Rattle.bq_explain.specs.Explained.{AreMade, AreOf}
 use Rattle.bq_explain.specs.Makers.{AreOnTrail, IsOnTrail}
 use Rattle.bq_explain.specs.declared.makers.Maker.{Maker}
 use Rattle.bq_explain.specs.declared.trail.RegisterMaker.{RegisterMaker}
-use Rattle.bq_explain.proofs.trail.trail_of.Goals as goal
+use Rattle.bq_explain.proofs.trail.find_trail.Goals as goal
 
 -- what tells of makers on the trail is on it
 on_trail : (slots : List (Option Insn)) (slot : ℕ) (asked : List Bool) (makers : List Maker) (made : List RegisterMaker)

@@ -4,8 +4,8 @@ use Rattle.bq_insn.specs.declared.Insn.{Insn}
 use Rattle.bq_explain.specs.Makers.{AreOnTrail, IsOnTrail, MakesAsked, first}
 use Rattle.bq_explain.specs.declared.makers.Maker.{Maker}
 use Rattle.std.proofs.lemmas.List.Elements.{Contains-get_or}
-use Rattle.bq_explain.proofs.makers.trail.Goals.{then-at-len+in_ok-push_operands, else-at-len}
-use Rattle.bq_explain.proofs.makers.trail.Goals as goal
+use Rattle.bq_explain.proofs.makers.find_makers_on_trail.Goals.{then-at-len+in_ok-push_operands, else-at-len}
+use Rattle.bq_explain.proofs.makers.find_makers_on_trail.Goals as goal
 
 -- what made one of the registers is on their trail
 begun : (slots : List (Option Insn)) (slot : ℕ) (asked : List Bool) (old new : List Maker) → old ≡ []

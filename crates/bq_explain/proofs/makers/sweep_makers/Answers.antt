@@ -1,8 +1,8 @@
 use Rattle.std.proofs.Common.{◌≡◌, ℕ, ◌+◌, ◌-◌, ◌<◌, true, length, arith, subst}
 use Rattle.std.specs.Prelude.{slice_set}
 use Rattle.bq_explain.proofs.MakerLemmas.{IsSwept, swept_first, swept_last, swept_off, swept_makes, swept_leads}
-use Rattle.bq_explain.proofs.makers.find_makers.Goals.{in-Off, in-Makes+in_ok-push-in-Makes, in-Leads}
-use Rattle.bq_explain.proofs.makers.find_makers.Goals as goal
+use Rattle.bq_explain.proofs.makers.sweep_makers.Goals.{in-Off, in-Makes+in_ok-push-in-Makes, in-Leads}
+use Rattle.bq_explain.proofs.makers.sweep_makers.Goals as goal
 
 pub loop-done-init : goal.loop-done-init
 loop-done-init c =

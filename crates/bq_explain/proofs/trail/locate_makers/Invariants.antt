@@ -1,5 +1,5 @@
 use Rattle.bq_explain.specs.Explained.{AreOf}
-use Rattle.bq_explain.proofs.trail.made_by.Given as goal
+use Rattle.bq_explain.proofs.trail.locate_makers.Given as goal
 
 abbrev pub invariant-loop-maker : goal.invariant-loop-maker
 invariant-loop-maker l = AreOf l.slots l.makers l.made.items
