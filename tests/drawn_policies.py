@@ -6,9 +6,9 @@
 BQSIM is the path of the program. A drawn program loads numbers from the context, copies, computes and compares them, keeps
 some on the stack, and then goes to a computed place of the context, of the stack or of an entry; look-ups are copied before
 they are tested. bqsim says which it accepts (`install`); each of these is run in tests/model/machine.py on contexts of
-small, great and negative numbers, and none may trap, read what is not set, or take more steps than its budget. `tests/quick.py`
-runs some of these. Seen: of 250,000 drawn programs (50,000 each by the seeds 71 to 75), 48,728 were accepted,
-and none trapped.
+small, great and negative numbers, and none may trap, read what is not set, or take more steps than its budget. Of 400 or more
+drawn programs at least one in ten must be accepted; else too little is tried. `tests/quick.py` runs some of these. Seen: of 250,000
+drawn programs (50,000 each by the seeds 71 to 75), 48,728 were accepted, and none trapped.
 """
 import os
 import random
@@ -29,6 +29,7 @@ NEAR = [0, 1, 3, 7, 8, 15, 16, 31, 32, 40, 47, 48, 52, 54, 55, 56, 57, 63, 64, 1
 FAR = [-1, -2, -8, -16, -32, -56, -64, -256, 2**31 - 1, -(2**31)]
 LENGTHS = {"b": 1, "h": 2, "w": 4, "dw": 8}
 BATCH = 400
+LEAST = 10  # one drawn program of so many is accepted at least; bqsim accepts about one of five
 
 
 class Writer:
@@ -185,6 +186,8 @@ def main():
             run(draw, image)
         count += len(good)
     print(f"{wanted} programs, {count} accepted, none traps")
+    if wanted >= BATCH and count * LEAST < wanted:
+        sys.exit(f"fewer than one of {LEAST} is accepted")
 
 
 if __name__ == "__main__":
