@@ -1,7 +1,7 @@
 //! Figures as comma-separated values.
 
 use crate::cells::{cell, deviation_of, difference_deviation_of, difference_of, mean_of, signed};
-use crate::labels::{name, subject, unit, word};
+use crate::labels::{name_of_figure, subject_text, unit_of_figure, word_of_figure};
 use crate::line::FigureLine;
 use crate::{Figure, FigureRow, PairedRow};
 use csv::{Error, Writer, WriterBuilder};
@@ -56,10 +56,10 @@ fn write_label(
     figure: Figure,
     names: &[String],
 ) -> Result<(), AllocError> {
-    write_field(writer, subject(alloc, figure)?.as_str())?;
-    write_field(writer, name(figure, names))?;
-    write_field(writer, word(figure))?;
-    write_field(writer, unit(figure))
+    write_field(writer, subject_text(alloc, figure)?.as_str())?;
+    write_field(writer, name_of_figure(figure, names))?;
+    write_field(writer, word_of_figure(figure))?;
+    write_field(writer, unit_of_figure(figure))
 }
 
 /// Writes how many runs of a side have a value, their mean and their deviation; of a side that is not there three empty fields.

@@ -21,8 +21,8 @@ pub struct FigureRow {
     pub deviation: Option<u128>,
 }
 
-/// Returns what some runs of the same figures say of each figure.
-pub fn rows(
+/// Makes a row for each figure: what some runs of these figures say of it.
+pub fn make_rows(
     alloc: Global,
     figures: &[Figure],
     runs: &[RunFigures],
@@ -38,7 +38,7 @@ pub fn rows(
     Ok(rows)
 }
 
-/// Returns what the numbers say of a figure.
+/// Makes the row of a figure from its numbers.
 fn row_of(figure: Figure, numbers: &[u64]) -> FigureRow
     requires { length numbers.now ≤ MOST_NUMBERS }
     ensures { IsRow figure numbers.now result }
@@ -54,7 +54,7 @@ fn row_of(figure: Figure, numbers: &[u64]) -> FigureRow
     }
 }
 
-/// Returns the numbers at a place in the runs that have one there.
+/// Lists the numbers at a place in the runs that have one there.
 fn numbers_at(alloc: Global, runs: &[RunFigures], place: usize) -> Result<Vec<u64>, AllocError>
     ensures value { IfOk result (λ v. v.items ≡ numbers_at place runs.now) }
     ensures few { IfOk result (λ v. length v.items ≤ length runs.now) }

@@ -5,7 +5,7 @@ use crate::cells::{
     deviation_of, difference_deviation_of, difference_of, difference_runs_of, mean_of, runs_of,
 };
 use crate::difference::Difference;
-use crate::labels::{name, subject, unit, word};
+use crate::labels::{name_of_figure, subject_text, unit_of_figure, word_of_figure};
 use crate::line::FigureLine;
 use serde_json::{Map, Value, put};
 use std::alloc::{AllocError, Global};
@@ -47,10 +47,10 @@ fn put_words(
     figure: Figure,
     names: &[String],
 ) -> Result<(), AllocError> {
-    put_word(alloc, object, "of", subject(alloc, figure)?.as_str())?;
-    put_word(alloc, object, "name", name(figure, names))?;
-    put_word(alloc, object, "figure", word(figure))?;
-    put_word(alloc, object, "unit", unit(figure))
+    put_word(alloc, object, "of", subject_text(alloc, figure)?.as_str())?;
+    put_word(alloc, object, "name", name_of_figure(figure, names))?;
+    put_word(alloc, object, "figure", word_of_figure(figure))?;
+    put_word(alloc, object, "unit", unit_of_figure(figure))
 }
 
 /// Adds a member with a word.

@@ -6,7 +6,7 @@ use crate::{Figure, HookFigure, LatencyFigure, ProcessorFigure, TaskFigure};
 use std::alloc::{AllocError, Global};
 
 /// Says what a figure is of: `task 3`, `cpu 0` or `cpu 0 place`.
-pub(crate) fn subject(alloc: Global, figure: Figure) -> Result<String, AllocError>
+pub(crate) fn subject_text(alloc: Global, figure: Figure) -> Result<String, AllocError>
     ensures { IfOk result (λ text. string_bytes text ≡ subject_text figure) }
 {
     match figure {
@@ -21,8 +21,8 @@ pub(crate) fn subject(alloc: Global, figure: Figure) -> Result<String, AllocErro
     }
 }
 
-/// Returns the name of the task that a figure is of.
-pub(crate) fn name<'a>(figure: Figure, names: &'a [String]) -> &'a str
+/// Returns the name of the task that a figure is of. Empty if it is of no task, or the task has no name.
+pub(crate) fn name_of_figure<'a>(figure: Figure, names: &'a [String]) -> &'a str
     ensures { result.now ≡ name_of_figure figure names.now }
 {
     let task = match figure {
@@ -36,7 +36,7 @@ pub(crate) fn name<'a>(figure: Figure, names: &'a [String]) -> &'a str
 }
 
 /// Returns the word for a figure, as the report has it.
-pub(crate) fn word(figure: Figure) -> &'static str {
+pub(crate) fn word_of_figure(figure: Figure) -> &'static str {
     match figure {
         Figure::Task(_, figure) => task_word(figure),
         Figure::Latency(_, figure) => latency_word(figure),
@@ -73,7 +73,7 @@ fn latency_word(figure: LatencyFigure) -> &'static str {
     }
 }
 
-/// Returns whether a figure is a time; otherwise it is a count.
+/// Tells whether a figure is a time; otherwise it is a count.
 pub(crate) fn is_time(figure: Figure) -> bool
     ensures { result ≡ is_time figure }
 {
@@ -91,7 +91,7 @@ pub(crate) fn is_time(figure: Figure) -> bool
 }
 
 /// Returns the unit of a figure: `ns`, or `1` of a count.
-pub(crate) fn unit(figure: Figure) -> &'static str
+pub(crate) fn unit_of_figure(figure: Figure) -> &'static str
     ensures { result.now ≡ unit_of_figure figure }
 {
     if is_time(figure) { "ns" } else { "1" }

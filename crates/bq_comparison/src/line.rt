@@ -16,8 +16,7 @@ pub struct FigureLine {
 }
 
 impl FigureLine {
-    /// Returns whether the line is of a task or a processor in the window; a line of a hook also needs a mean other than 0 on one
-    /// side.
+    /// Tells whether the line is of a task or a processor in the window; a line of a hook also needs a mean other than 0 on one side.
     fn is_shown(&self, window: &Window) -> bool
         ensures { IsTrue result ↔ IsLineShown window.now self.now }
     {
@@ -32,7 +31,7 @@ impl FigureLine {
         }
     }
 
-    /// Returns whether the mean of each side is 0.
+    /// Tells whether the means of all sides that there are are 0.
     fn is_zero(&self) -> bool
         ensures { result ≡ is_zero self.now }
     {
@@ -72,8 +71,12 @@ impl Sides {
     }
 }
 
-/// Lists the rows that are shown, those of both sides side by side.
-pub fn lines(alloc: Global, sides: &Sides, window: &Window) -> Result<Vec<FigureLine>, AllocError>
+/// Puts the rows of the sides beside one another. Leaves out the lines that are not shown.
+pub fn make_lines(
+    alloc: Global,
+    sides: &Sides,
+    window: &Window,
+) -> Result<Vec<FigureLine>, AllocError>
     ensures { IfOk result (λ v. Selects (IsLineShown window.now) (rows_beside 0 sides.now.ours.items sides.now.theirs) v.items) }
 {
     let mut lines = Vec::new(alloc);

@@ -7,7 +7,7 @@ ghost use Rattle.bq_comparison.specs.declared.fault.SeedsFault.TheVariants.{OutO
 
 use crate::fault::SeedsFault;
 use crate::gathering::gather;
-use crate::{Figure, FigureRow, RunFigures, rows, run_of};
+use crate::{Figure, FigureRow, RunFigures, make_rows, run_of};
 use bq_console::{EVENTS, ProgressLine, WorkDone};
 use bq_installed::Policy;
 use bq_simulate::SimulateFault;
@@ -58,7 +58,7 @@ const MOST_AT_ONCE: usize = 64;
 /// once as there are processors available, each on a thread of its own. A workload with a flaw is refused for the first of its
 /// flaws. The runs of a workload without a flaw fail only if memory runs out, or if 64 bits do not count the bound of its steps.
 /// `Last` comes exactly when the last seed would be 2^64 or more.
-pub fn summary<T: Threads + Sync>(
+pub fn run_seeds<T: Threads + Sync>(
     threads: &T,
     alloc: Global,
     experiment: &Experiment<'_>,
@@ -68,13 +68,13 @@ pub fn summary<T: Threads + Sync>(
     ensures rows { IfOk result (λ s. IsSummaryOf experiment.now count s.runs.items s.rows.items) }
     ensures fault { IfErr result (HasNoSummary experiment.now count) }
 {
-    let runs = runs(threads, alloc, experiment, count, shown)?;
-    let rows = rows(alloc, experiment.figures, runs.as_slice())?;
+    let runs = run_each(threads, alloc, experiment, count, shown)?;
+    let rows = make_rows(alloc, experiment.figures, runs.as_slice())?;
     Ok(SeedsSummary { runs, rows })
 }
 
-/// Does the runs with this many seeds, from the workload's own on.
-fn runs<T: Threads + Sync>(
+/// Runs the workload with each of this many seeds, from its own on.
+fn run_each<T: Threads + Sync>(
     threads: &T,
     alloc: Global,
     experiment: &Experiment<'_>,
@@ -116,7 +116,7 @@ fn show_runs(shown: &RunsShown<'_>, runs: &[RunFigures]) {
     }
 }
 
-/// Returns how many runs are done at once: as many as there are processors available.
+/// Returns how many runs are done at once: as many as there are processors available, from 1 to 64.
 fn runs_at_once<T: Threads + Sync>(threads: &T) -> usize
     ensures { 1 ≤ result }
 {
@@ -146,7 +146,7 @@ fn at_once<T: Threads + Sync>(
     )
 }
 
-/// Does the run whose seed is this many above the first.
+/// Runs the workload with the seed that is this many above the first.
 fn nth_run(
     alloc: Global,
     experiment: &Experiment<'_>,
@@ -173,7 +173,7 @@ fn add_all(runs: &mut Vec<RunFigures>, results: Results) -> Result<(), SeedsFaul
     Ok(())
 }
 
-/// Does one run, with this seed in place of the workload's own.
+/// Runs the workload once, with this seed in place of its own.
 fn run(alloc: Global, experiment: &Experiment<'_>, seed: u64) -> Result<RunFigures, SeedsFault>
     ensures run { IfOk result (IsRunWithSeed experiment.now seed) }
     ensures fault { IfErr result (IsNoRunWithSeed experiment.now seed) }

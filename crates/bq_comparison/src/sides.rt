@@ -7,7 +7,7 @@ ghost use Rattle.bq_comparison.specs.Sides.{IsComparison, other_policies, size_o
 use crate::seeds::{Experiment, RunsShown};
 use crate::{
     MachineSize, PairedRow, Rows, RunFigures, SeedsFault, SeedsSummary, all_figures, paired_rows,
-    summary,
+    run_seeds,
 };
 use bq_console::ProgressLine;
 use bq_experiment::Policies;
@@ -64,7 +64,13 @@ pub fn compare<T: Threads + Sync>(
     };
     let seeds = plan.seeds;
     let Some(others) = others else {
-        let SeedsSummary { rows, .. } = summary(threads, alloc, &ours, seeds, &shown(plan, 0, 1))?;
+        let SeedsSummary { rows, .. } = run_seeds(
+            threads,
+            alloc,
+            &ours,
+            seeds,
+            &shown(plan, 0, 1),
+        )?;
         return Ok(Sides {
             ours: rows,
             theirs: None,
@@ -74,7 +80,7 @@ pub fn compare<T: Threads + Sync>(
         policies: others.loaded(),
         ..ours
     };
-    let SeedsSummary { runs, rows } = summary(threads, alloc, &ours, seeds, &shown(plan, 0, 2))?;
+    let SeedsSummary { runs, rows } = run_seeds(threads, alloc, &ours, seeds, &shown(plan, 0, 2))?;
     let runs = runs.as_slice();
     let theirs = other_side(threads, alloc, &theirs, seeds, &shown(plan, 1, 2), runs)?;
     Ok(Sides {
@@ -96,7 +102,7 @@ fn other_side<T: Threads + Sync>(
     ensures side { IfOk result (IsSideOf experiment.now count ours.now) }
     ensures fault { IfErr result (HasNoSummary experiment.now count) }
 {
-    let SeedsSummary { runs, rows } = summary(threads, alloc, experiment, count, shown)?;
+    let SeedsSummary { runs, rows } = run_seeds(threads, alloc, experiment, count, shown)?;
     let paired = paired_rows(alloc, experiment.figures.len(), ours, runs.as_slice())?;
     Ok(OtherSide { rows, paired })
 }

@@ -2,7 +2,7 @@
 
 use crate::cells::{cell, deviation_of, difference_deviation_of, difference_of, mean_of, signed};
 use crate::difference::Difference;
-use crate::labels::{is_time, name, subject, word};
+use crate::labels::{is_time, name_of_figure, subject_text, word_of_figure};
 use crate::line::FigureLine;
 use std::alloc::{AllocError, Global};
 
@@ -41,9 +41,9 @@ fn write_label(
     names: &[String],
 ) -> Result<(), AllocError> {
     let figure = line.ours.figure;
-    let subject = subject(alloc, figure)?;
-    let name = name(figure, names);
-    let word = word(figure);
+    let subject = subject_text(alloc, figure)?;
+    let name = name_of_figure(figure, names);
+    let word = word_of_figure(figure);
     let unit = if is_time(figure) { "us" } else { "" };
     write!(text, "{subject:<14} {name:<15.15} {word:<13} {unit:<4}")
 }

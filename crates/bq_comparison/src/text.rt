@@ -3,7 +3,7 @@
 use crate::asked::{Comparing, TableForm};
 use crate::csv_text::csv_text;
 use crate::json_text::json_text;
-use crate::line::lines;
+use crate::line::make_lines;
 use crate::sides::Sides;
 use crate::table::table_text;
 use bq_experiment::{shown_name, task_names};
@@ -18,7 +18,7 @@ pub fn comparison_text(
     sides: &Sides,
     asked: &Comparing,
 ) -> Result<String, AllocError> {
-    let lines = lines(alloc, sides, &asked.window)?;
+    let lines = make_lines(alloc, sides, &asked.window)?;
     let lines = lines.as_slice();
     let names = shown_names(alloc, workload)?;
     let names = names.as_slice();

@@ -10,7 +10,7 @@ ghost use Rattle.bq_drawing.specs.Writing.{IsRowWritten};
 
 use crate::frame::Frame;
 use crate::lanes::TaskInterval;
-use crate::row_lanes::{draw_waits, draw_wakes, levels};
+use crate::row_lanes::{count_levels, draw_waits, draw_wakes};
 use crate::shapes::{BAND, DrawnRun, GAP, LANE, LEVEL, write_label, write_row_name, write_run};
 use crate::written_rows::WrittenRows;
 use bq_schedule::Wake;
@@ -103,7 +103,7 @@ impl ProcessorRow {
     {
         let waits = in_order(alloc, self.waits.as_slice())?;
         let wakes = in_order(alloc, self.wakes.as_slice())?;
-        let levels = levels(alloc, wakes.as_slice(), frame)?;
+        let levels = count_levels(alloc, wakes.as_slice(), frame)?;
         let top = band_top(rows.bottom, levels);
         rows.bands.insert(number, top)?;
         write_row_name(number, top, &mut rows.text)?;

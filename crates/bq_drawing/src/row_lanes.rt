@@ -21,7 +21,7 @@ pub(crate) struct LaneShapes {
 }
 
 /// Returns how many levels the wakes need, so that no two arrows overlap.
-pub(crate) fn levels(
+pub(crate) fn count_levels(
     alloc: Global,
     wakes: &[TaskInterval],
     frame: &Frame<'_>,

@@ -11,7 +11,7 @@ use bq_report::percent::Percent;
 use bq_report::tables::write_millis;
 use bq_schedule::Change;
 use bq_trace::{AnyCore, AnyCpu};
-use bq_why::{present, processor_and_time};
+use bq_why::{list_present, processor_and_time};
 use bq_words::DisciplineName;
 use std::alloc::{AllocError, Global};
 
@@ -83,7 +83,7 @@ impl BoundsTable {
                     None => false,
                 };
                 if !is_done {
-                    let tasks = present(self.alloc, cpu)?;
+                    let tasks = list_present(self.alloc, cpu)?;
                     self.bounds
                         .owe(processor, event, reply, rise, tasks.as_slice());
                 }

@@ -3,10 +3,10 @@
 ghost use Rattle.std.specs.Prelude.{◌≤◌, length};
 
 use crate::asked::Asked;
-use crate::presence::present;
+use crate::presence::list_present;
 use crate::reasons::{Reason, choice_reason};
 use crate::rival_text::{write_deadlines, write_equal_runtime, write_giving_way};
-use crate::task_row::{TaskRow, measured_from, rows};
+use crate::task_row::{TaskRow, make_rows, measured_from};
 use crate::texts::{IdsText, LagText, MarkText, TaskText, VirtualTime, eligibility};
 use bq_cfs::GRANULARITY;
 use bq_disc::Entity;
@@ -39,8 +39,8 @@ pub(crate) fn write_choice(
 ) -> Result<(), AllocError> {
     let discipline = machine.discipline();
     let (mark, tasks) = match machine.cpu(choice.processor) {
-        Some(AnyCpu::Cfs(cpu)) => (cpu.mark(), present(alloc, cpu)?),
-        Some(AnyCpu::Eevdf(cpu)) => (cpu.mark(), present(alloc, cpu)?),
+        Some(AnyCpu::Cfs(cpu)) => (cpu.mark(), list_present(alloc, cpu)?),
+        Some(AnyCpu::Eevdf(cpu)) => (cpu.mark(), list_present(alloc, cpu)?),
         None => return Ok(()),
     };
     if let Some(from) = measured_from(discipline, tasks.as_slice()) {
@@ -51,7 +51,7 @@ pub(crate) fn write_choice(
         };
         write!(text, "    {mark_text}\n")?;
     }
-    let rows = rows(alloc, tasks.as_slice())?;
+    let rows = make_rows(alloc, tasks.as_slice())?;
     write_rows(alloc, text, names, discipline, rows.as_slice(), choice.run)?;
     write_reason(
         text,

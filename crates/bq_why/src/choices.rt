@@ -12,7 +12,7 @@ use bq_words::DisciplineName;
 
 /// Finds the task that a discipline chooses: CFS the one of least (v, id), EEVDF the eligible one of least (deadline, id). `None` if
 /// there is no such task.
-pub fn choice(discipline: DisciplineName, tasks: &[Entity]) -> Option<Entity>
+pub fn choose_task(discipline: DisciplineName, tasks: &[Entity]) -> Option<Entity>
     requires { length tasks.now ≤ TASKS }
     ensures { result ≡ (discipline_of discipline).choice tasks.now }
 {

@@ -22,11 +22,11 @@ pub mod texts;
 pub mod why_text;
 
 pub use answers::answer;
-pub use choices::choice;
+pub use choices::choose_task;
 pub use event_text::{RefusalText, RefusedEvent};
-pub use presence::{present, waiting};
+pub use presence::{list_present, list_waiting};
 pub use pull_facts::{OwnPull, PullFacts, pull_facts_between};
 pub use reasons::{Reason, choice_reason};
 pub use rivals::{passed_over, tied_with};
-pub use task_row::{TaskRow, measured_from, rows};
+pub use task_row::{TaskRow, make_rows, measured_from};
 pub use why_text::{Occurrence, WhyForm, processor_and_time};

@@ -9,7 +9,7 @@ use std::alloc::{AllocError, Global};
 
 /// Lists the tasks that run or wait at a processor: the running one first, then the queue by rising (v, id). The list has at most
 /// 1,024 tasks, and there are no more ids than that.
-pub fn present<Q: RunQueue>(alloc: Global, cpu: &Cpu<Q>) -> Result<Vec<Entity>, AllocError>
+pub fn list_present<Q: RunQueue>(alloc: Global, cpu: &Cpu<Q>) -> Result<Vec<Entity>, AllocError>
     ensures few { IfOk result (λ tasks. length tasks.items ≤ TASKS) }
     ensures all { IfOk result (λ tasks. length (present_at cpu.now.running) ≤ TASKS → tasks.items ≡ present_at cpu.now.running) }
 {
@@ -22,7 +22,7 @@ pub fn present<Q: RunQueue>(alloc: Global, cpu: &Cpu<Q>) -> Result<Vec<Entity>, 
 }
 
 /// Lists the tasks that wait at a processor, by rising (v, id). If there were more than 1,024, some would be left out.
-pub fn waiting<Q: RunQueue>(alloc: Global, cpu: &Cpu<Q>) -> Result<Vec<Entity>, AllocError>
+pub fn list_waiting<Q: RunQueue>(alloc: Global, cpu: &Cpu<Q>) -> Result<Vec<Entity>, AllocError>
     ensures few { IfOk result (λ tasks. length tasks.items ≤ TASKS) }
     ensures all { IfOk result (λ tasks. length cpu.now.running.queue ≤ TASKS → tasks.items ≡ cpu.now.running.queue) }
 {

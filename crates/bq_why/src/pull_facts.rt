@@ -5,7 +5,7 @@ ghost use Rattle.bq_disc.specs.Movable.{movable_to, ids};
 ghost use Rattle.bq_why.specs.Pulls.{Sees, own_pull_of};
 ghost use Rattle.bq_disc.specs.declared.movable.TheConstants.{MOST_NAMED};
 
-use crate::presence::{present, waiting};
+use crate::presence::{list_present, list_waiting};
 use bq_disc::limits::PROCESSORS;
 use bq_disc::{Entity, Movable, RunQueue};
 use bq_parts::Cpu;
@@ -84,9 +84,9 @@ pub fn pull_facts_between<Q: RunQueue>(
     requires { puller < PROCESSORS }
     ensures { IfOk result (λ facts. Sees puller here.now.running there.now.running facts) }
 {
-    let size = present(alloc, here)?.len();
-    let other_size = present(alloc, there)?.len();
-    let queue = waiting(alloc, there)?;
+    let size = list_present(alloc, here)?.len();
+    let other_size = list_present(alloc, there)?.len();
+    let queue = list_waiting(alloc, there)?;
     Ok(PullFacts {
         puller,
         other,

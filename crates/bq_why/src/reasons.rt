@@ -3,7 +3,7 @@ ghost use Rattle.std.specs.Prelude.{◌≡◌, ◌≤◌, length};
 ghost use Rattle.bq_disc.specs.Tasks.{find_task};
 ghost use Rattle.bq_why.specs.Reasons.{reason_of, cfs_reason_of, least_reason_of, eevdf_reason_of};
 
-use crate::choices::choice;
+use crate::choices::choose_task;
 use bq_cfs::GRANULARITY;
 use bq_disc::Entity;
 use bq_disc::limits::TASKS;
@@ -46,7 +46,7 @@ pub fn choice_reason(
     if let By::Policy = by {
         return Reason::Policy;
     }
-    let chosen = choice(discipline, tasks);
+    let chosen = choose_task(discipline, tasks);
     match discipline {
         DisciplineName::Eevdf => eevdf_reason(run, chosen),
         DisciplineName::Cfs => {

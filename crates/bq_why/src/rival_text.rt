@@ -22,7 +22,7 @@ pub(crate) fn write_deadlines(
 {
     if let Some(chosen) = find_task(tasks, run) {
         if let Some(other) = tied_with(DisciplineName::Eevdf, &chosen, tasks) {
-            let who = who(names, &other);
+            let who = name_task(names, &other);
             let tied = other.id();
             write!(
                 text,
@@ -43,7 +43,7 @@ fn write_passed_over(
     chosen: &Entity,
     first: &Entity,
 ) -> Result<(), AllocError> {
-    let who = who(names, first);
+    let who = name_task(names, first);
     if first.deadline() == chosen.deadline() {
         let (first, chosen) = (first.id(), chosen.id());
         return write!(
@@ -85,7 +85,7 @@ pub(crate) fn write_equal_runtime(
 {
     if let Some(chosen) = find_task(tasks, run) {
         if let Some(other) = tied_with(DisciplineName::Cfs, &chosen, tasks) {
-            let who = who(names, &other);
+            let who = name_task(names, &other);
             let tied = other.id();
             write!(text, "; {who} has the same v")?;
             if was == Some(run) {
@@ -100,7 +100,7 @@ pub(crate) fn write_equal_runtime(
 }
 
 /// Returns the text of a task: its name, or its number if it has none.
-fn who<'a>(names: &'a Names, task: &Entity) -> TaskText<'a> {
+fn name_task<'a>(names: &'a Names, task: &Entity) -> TaskText<'a> {
     TaskText {
         names,
         task: task.id(),

@@ -2,7 +2,7 @@
 ghost use Rattle.std.specs.Prelude.{◌≡◌, ◌≤◌, length, map, IfOk};
 ghost use Rattle.bq_why.specs.Rows.{row_of_task, row_by, measured_from};
 
-use crate::choices::choice;
+use crate::choices::choose_task;
 use bq_bounds::totals::totals;
 use bq_disc::Entity;
 use bq_disc::limits::TASKS;
@@ -29,7 +29,7 @@ pub struct TaskRow {
 }
 
 /// Makes one row for each task, in the order of the tasks. `AllocError` if there is no memory for them.
-pub fn rows(alloc: Global, tasks: &[Entity]) -> Result<Vec<TaskRow>, AllocError>
+pub fn make_rows(alloc: Global, tasks: &[Entity]) -> Result<Vec<TaskRow>, AllocError>
     requires { length tasks.now ≤ TASKS }
     ensures { IfOk result (λ rows. rows.items ≡ map (row_of_task tasks.now) tasks.now) }
 {
@@ -67,7 +67,7 @@ pub fn measured_from(discipline: DisciplineName, tasks: &[Entity]) -> Option<u64
     ensures { result ≡ measured_from discipline tasks.now }
 {
     match discipline {
-        DisciplineName::Cfs => match choice(DisciplineName::Cfs, tasks) {
+        DisciplineName::Cfs => match choose_task(DisciplineName::Cfs, tasks) {
             Some(least) => Some(least.v()),
             None => None,
         },

@@ -114,7 +114,7 @@ impl fmt::Display for LagText<'_> {
 
     fn fmt<W: fmt::Write>(&self, f: &mut fmt::Formatter<W>) -> fmt::Result {
         let amount = Millis(amount(self.0));
-        let sign = sign(self.0);
+        let sign = lag_sign(self.0);
         write!(f, "{sign}{amount}")
     }
 }
@@ -127,7 +127,7 @@ fn amount(row: &TaskRow) -> u64
 }
 
 /// Returns the sign of a row's lag: a plus if the task is owed time, otherwise a minus.
-fn sign(row: &TaskRow) -> &'static str
+fn lag_sign(row: &TaskRow) -> &'static str
     ensures { result.now ≡ lag_sign row.now.is_eligible }
 {
     if row.is_eligible { "+" } else { "-" }

@@ -1,7 +1,7 @@
 use Rattle.std.proofs.Common.{rules, ◌≡◌, ◌+◌, ◌≤◌, length, arith}
 use Rattle.std.proofs.lemmas.Result.{err_from_is_err_and}
 use Rattle.bq_comparison.proofs.RunLemmas.{AreRuns-come, Comes-count, none_comes}
-use Rattle.bq_comparison.proofs.seeds.runs.Goals as goal
+use Rattle.bq_comparison.proofs.seeds.run_each.Goals as goal
 
 pub numbers-preserved : goal.numbers-preserved
 numbers-preserved g c =

@@ -2,7 +2,7 @@ use Rattle.std.proofs.Common.{◌∙◌}
 use Rattle.std.proofs.lemmas.List.{drop_all}
 use Rattle.bq_drawing.specs.Shapes.{arrow_of}
 use Rattle.bq_drawing.proofs.PlacedLemmas.{lanes_all, lanes_more}
-use Rattle.bq_drawing.proofs.row_lanes.levels.Goals as goal
+use Rattle.bq_drawing.proofs.row_lanes.count_levels.Goals as goal
 
 pub loop-wake-preserved : goal.loop-wake-preserved
 loop-wake-preserved c =

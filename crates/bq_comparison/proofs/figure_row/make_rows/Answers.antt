@@ -5,7 +5,7 @@ use Rattle.bq_comparison.specs.declared.figure.Figure.TheVariants.{Task}
 use Rattle.bq_comparison.specs.declared.figure.TaskFigure.TheVariants.{Ran}
 use Rattle.bq_comparison.specs.Rows.{IsRow, numbers_at}
 use Rattle.bq_comparison.proofs.RowLemmas.{AreRowsFrom-push}
-use Rattle.bq_comparison.proofs.figure_row.rows.Goals as goal
+use Rattle.bq_comparison.proofs.figure_row.make_rows.Goals as goal
 
 pub figures-preserved : goal.figures-preserved
 figures-preserved c =

@@ -1,7 +1,7 @@
 use Rattle.std.proofs.Common.{◌≡◌, [], drop}
 use Rattle.bq_drawing.specs.Lanes.{lanes_after}
 use Rattle.bq_drawing.specs.Shapes.{arrow_of}
-use Rattle.bq_drawing.proofs.row_lanes.levels.Given as goal
+use Rattle.bq_drawing.proofs.row_lanes.count_levels.Given as goal
 
 -- the wakes that are left take the rest of the levels
 abbrev pub invariant-loop-wake : goal.invariant-loop-wake

@@ -6,8 +6,8 @@ use Rattle.bq_comparison.specs.declared.figure_row.FigureRow.{FigureRow}
 use Rattle.bq_comparison.specs.declared.line.FigureLine.{FigureLine}
 use Rattle.bq_comparison.specs.Lines.{Selects, IsLineShown, row_beside, rows_beside}
 use Rattle.bq_comparison.proofs.LineLemmas.{Selects-take, Selects-leave, beside-more}
-use Rattle.bq_comparison.proofs.line.lines.Goals as goal
-use Rattle.bq_comparison.proofs.line.lines.Goals.{then-is_shown+in_ok-push, else-is_shown}
+use Rattle.bq_comparison.proofs.line.make_lines.Goals as goal
+use Rattle.bq_comparison.proofs.line.make_lines.Goals.{then-is_shown+in_ok-push, else-is_shown}
 
 pub rows-preserved : goal.rows-preserved
 rows-preserved c =

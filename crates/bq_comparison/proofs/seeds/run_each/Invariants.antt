@@ -1,6 +1,6 @@
 use Rattle.std.proofs.Common.{◌≤◌, ◌-◌, length}
 use Rattle.bq_comparison.specs.Experiments.{AreRunsOf}
-use Rattle.bq_comparison.proofs.seeds.runs.Given as goal
+use Rattle.bq_comparison.proofs.seeds.run_each.Given as goal
 
 abbrev pub invariant-numbers : goal.invariant-numbers
 invariant-numbers g l = record {
