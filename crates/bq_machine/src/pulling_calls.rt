@@ -11,11 +11,12 @@ use crate::clock::Clock;
 use crate::machine::{LockedProcessor, Machine};
 use crate::needs::rooms_of_event;
 use crate::records::Records;
+use crate::rooms::EventRooms;
 use bq_disc::RunQueue;
-use bq_history::{Naming, Receipt, Room, look_at_both};
+use bq_history::{Naming, Receipt, look_at_both};
 use bq_parts::{Event, Refusal};
 use bq_recording::{MachineSeat, WorkingSeat};
-use bq_shared::{CallRooms, Counting, Record, hold_calls};
+use bq_shared::{Counting, Record, hold_calls};
 use std::alloc::Global;
 use std::sync::Wait;
 
@@ -44,14 +45,11 @@ impl<Q: RunQueue + Drop, K: Clock + Drop, N: Naming + Counting, const P: usize> 
     {
         self.check_pair(processor, from)?;
         rooms_of_event(alloc, &mut seat.record_room, &mut seat.call_rooms)?;
-        Ok(self.pull_at(
-            rt,
-            &mut seat.working,
-            &mut seat.record_room,
-            &mut seat.call_rooms,
-            processor,
-            from,
-        ))
+        let rooms = EventRooms {
+            record: &mut seat.record_room,
+            calls: &mut seat.call_rooms,
+        };
+        Ok(self.pull_at(rt, &mut seat.working, rooms, processor, from))
     }
 
     /// Locks both processors, pulls a task from one to the other, and records that.
@@ -59,15 +57,14 @@ impl<Q: RunQueue + Drop, K: Clock + Drop, N: Naming + Counting, const P: usize> 
         &self,
         rt: &R,
         working: &mut WorkingSeat<N>,
-        room: &mut Room<Record>,
-        calls: &mut Option<CallRooms>,
+        rooms: EventRooms<'_>,
         processor: u8,
         from: u8,
     ) -> Receipt<Record>
         requires inside { (processor < P) × (from < P) }
         requires apart { processor ≢ from }
-        requires ready { room.old ≡ true }
-        requires calls { is_some calls.old ≡ true }
+        requires ready { rooms.record.now ≡ true }
+        requires calls { is_some rooms.calls.now ≡ true }
         requires account { AccountMatchesReceipts reported_calls working.old }
         ensures caller { working.new.caller ≡ with_receipt result working.old.caller }
         ensures account { AccountMatchesReceipts reported_calls working.new }
@@ -92,7 +89,7 @@ impl<Q: RunQueue + Drop, K: Clock + Drop, N: Naming + Counting, const P: usize> 
             &mut counter_board,
         );
         working.close_board(counter_board);
-        let held = hold_calls(calls, content.scratch.calls());
+        let held = hold_calls(rooms.calls, content.scratch.calls());
         let mut journal = self.recorder.lock_journal(rt);
         let kept = journal.kept().after_pull(processor, from, &reply);
         let event = Event::Pull {
@@ -100,7 +97,7 @@ impl<Q: RunQueue + Drop, K: Clock + Drop, N: Naming + Counting, const P: usize> 
             from,
             now,
         };
-        let draft = Records::of(event, &Ok(reply), held).draft(room, kept);
+        let draft = Records::of(event, &Ok(reply), held).draft(rooms.record, kept);
         working.commit_two(
             &self.recorder.history,
             &mut *journal,

@@ -8,11 +8,12 @@ ghost use Rattle.bq_machine.specs.Calls.{IsProcessorCallRefused, RecordsAtReadin
 use crate::clock::Clock;
 use crate::machine::Machine;
 use crate::records::Records;
+use crate::rooms::EventRooms;
 use bq_disc::RunQueue;
 use bq_history::{Naming, Receipt, Room, look_at_both};
 use bq_parts::{Event, Refusal};
 use bq_recording::{MachineSeat, WorkingSeat};
-use bq_shared::{CallRooms, Counting, Record, hold_calls, record_room};
+use bq_shared::{Counting, Record, hold_calls, record_room};
 use std::alloc::Global;
 use std::sync::Wait;
 
@@ -45,13 +46,11 @@ impl<Q: RunQueue + Drop, K: Clock + Drop, N: Naming + Counting, const P: usize> 
             &mut seat.call_rooms,
             processor,
         )?;
-        Ok(self.tick_at(
-            rt,
-            &mut seat.working,
-            &mut seat.record_room,
-            &mut seat.call_rooms,
-            processor,
-        ))
+        let rooms = EventRooms {
+            record: &mut seat.record_room,
+            calls: &mut seat.call_rooms,
+        };
+        Ok(self.tick_at(rt, &mut seat.working, rooms, processor))
     }
 
     /// Locks the processor, ticks there, and records that.
@@ -60,13 +59,12 @@ impl<Q: RunQueue + Drop, K: Clock + Drop, N: Naming + Counting, const P: usize> 
         &self,
         rt: &R,
         working: &mut WorkingSeat<N>,
-        room: &mut Room<Record>,
-        calls: &mut Option<CallRooms>,
+        rooms: EventRooms<'_>,
         processor: u8,
     ) -> Receipt<Record>
         requires inside { processor < P }
-        requires ready { room.old ≡ true }
-        requires calls { is_some calls.old ≡ true }
+        requires ready { rooms.record.now ≡ true }
+        requires calls { is_some rooms.calls.now ≡ true }
         requires account { AccountMatchesReceipts reported_calls working.old }
         ensures caller { working.new.caller ≡ with_receipt result working.old.caller }
         ensures account { AccountMatchesReceipts reported_calls working.new }
@@ -83,8 +81,8 @@ impl<Q: RunQueue + Drop, K: Clock + Drop, N: Naming + Counting, const P: usize> 
             .state
             .tick(processor, now, &mut content.scratch, &mut counter_board);
         working.close_board(counter_board);
-        let held = hold_calls(calls, content.scratch.calls());
-        let draft = Records::of_tick(processor, now, reply, held).draft(room, None);
+        let held = hold_calls(rooms.calls, content.scratch.calls());
+        let draft = Records::of_tick(processor, now, reply, held).draft(rooms.record, None);
         let mut journal = self.recorder.lock_journal(rt);
         working.commit_one(&self.recorder.history, &mut *journal, &mut cpu.cell, draft)
     }
@@ -111,13 +109,11 @@ impl<Q: RunQueue + Drop, K: Clock + Drop, N: Naming + Counting, const P: usize> 
             &mut seat.call_rooms,
             processor,
         )?;
-        Ok(self.drain_at(
-            rt,
-            &mut seat.working,
-            &mut seat.record_room,
-            &mut seat.call_rooms,
-            processor,
-        ))
+        let rooms = EventRooms {
+            record: &mut seat.record_room,
+            calls: &mut seat.call_rooms,
+        };
+        Ok(self.drain_at(rt, &mut seat.working, rooms, processor))
     }
 
     /// Locks the processor and its inbox, drains the inbox, and records that.
@@ -125,13 +121,12 @@ impl<Q: RunQueue + Drop, K: Clock + Drop, N: Naming + Counting, const P: usize> 
         &self,
         rt: &R,
         working: &mut WorkingSeat<N>,
-        room: &mut Room<Record>,
-        calls: &mut Option<CallRooms>,
+        rooms: EventRooms<'_>,
         processor: u8,
     ) -> Receipt<Record>
         requires inside { processor < P }
-        requires ready { room.old ≡ true }
-        requires calls { is_some calls.old ≡ true }
+        requires ready { rooms.record.now ≡ true }
+        requires calls { is_some rooms.calls.now ≡ true }
         requires account { AccountMatchesReceipts reported_calls working.old }
         ensures caller { working.new.caller ≡ with_receipt result working.old.caller }
         ensures account { AccountMatchesReceipts reported_calls working.new }
@@ -154,9 +149,9 @@ impl<Q: RunQueue + Drop, K: Clock + Drop, N: Naming + Counting, const P: usize> 
             &mut counter_board,
         );
         working.close_board(counter_board);
-        let held = hold_calls(calls, content.scratch.calls());
+        let held = hold_calls(rooms.calls, content.scratch.calls());
         let event = Event::Drain { processor, now };
-        let draft = Records::of(event, &Ok(reply), held).draft(room, None);
+        let draft = Records::of(event, &Ok(reply), held).draft(rooms.record, None);
         let mut journal = self.recorder.lock_journal(rt);
         working.commit_two(
             &self.recorder.history,
