@@ -152,13 +152,20 @@ fn unfit(alloc: Global, hook: Hook, part: &str, name: &str, field: Field) -> Wor
 
 /// Makes the fault of a name that no field of the hook has, with the names that there are.
 fn unknown(alloc: Global, name: &str, hook: Hook) -> WordsFault {
-    let names = field_names(hook);
-    let known = match names.split_once(" to ") {
-        Some((known, _)) => known,
-        None => names,
+    let Ok(names) = field_names(alloc, hook) else {
+        return WordsFault::OutOfMemory;
     };
+    let known = before_ranges(names.as_str());
     match format!(in alloc; "there is no such field; the fields are {names}") {
         Ok(right) => words_fault(value_words(alloc, "set", name, &right, known)),
         Err(_) => WordsFault::OutOfMemory,
+    }
+}
+
+/// Returns the part of a list of names before the first ` to `: names and commas alone.
+fn before_ranges(names: &str) -> &str {
+    match names.split_once(" to ") {
+        Some((known, _)) => known,
+        None => names,
     }
 }

@@ -9,6 +9,7 @@ ghost use Rattle.bq_policy_run.specs.declared.fields.FieldRow.{FieldRow as Field
 
 use bq_console::words::{cut, decimal};
 use bq_hooks::{Hook, Version, context_length};
+use std::alloc::{AllocError, Global};
 
 /// The number of bytes of a field: four, or eight.
 #[derive(Clone, Copy)]
@@ -249,17 +250,40 @@ fn paste(context: &mut [u8], at: usize, bytes: &[u8]) -> bool
     true
 }
 
-/// Names the fields of a hook, for a message.
-pub(crate) fn field_names(hook: Hook) -> &'static str {
-    match hook {
-        Hook::Place => {
-            "task, weight, mask, slice, waker, previous, processors, own, load.0 to load.15 (in version 2 to load.63)"
+/// Returns the names of the fields of a hook with commas between, for a message.
+pub(crate) fn field_names(alloc: Global, hook: Hook) -> Result<String, AllocError> {
+    let mut names = String::new(alloc);
+    for row in rows(hook) {
+        if !names.is_empty() {
+            names.push_str(", ")?;
         }
-        Hook::Preempt => {
-            "processor, queued, task, weight, v, deadline, next, next_weight, next_v, own"
-        }
-        Hook::Pull => {
-            "puller, other, size, other_size, movable, shown, own, task.0 to task.7, weight.0 to weight.7, v.0 to v.7"
-        }
+        write_row_names(hook, row, &mut names)?;
     }
+    Ok(names)
+}
+
+/// Writes the name of a row's field. If the field comes several times, this is its first and its last name in contexts of the first
+/// version, and the last in those of the second version if they have more.
+fn write_row_names(hook: Hook, row: &FieldRow, names: &mut String) -> Result<(), AllocError> {
+    let name = row.name;
+    if row.count == 1 {
+        return write!(names, "{name}");
+    }
+    let last = last_number(hook, Version::First, row);
+    write!(names, "{name}.0 to {name}.{last}")?;
+    let last_of_second = last_number(hook, Version::Second, row);
+    if last_of_second > last {
+        let second = Version::Second.number();
+        write!(names, " (in version {second} to {name}.{last_of_second})")?;
+    }
+    Ok(())
+}
+
+/// Returns the greatest number of a row's field, counted from 0, with which the field ends within the context of a version.
+fn last_number(hook: Hook, version: Version, row: &FieldRow) -> usize {
+    let behind_first = context_length(hook, version)
+        .saturating_sub(row.at)
+        .saturating_sub(row.width.bytes());
+    let more = behind_first.checked_div(row.apart).unwrap_or(0);
+    more.min(row.count.saturating_sub(1))
 }
