@@ -211,22 +211,12 @@ const MACHINE_OPTIONS: &[OptionText] = options! {
     ("seed", Once("N"), "The seed from which random lengths are drawn; the default is the workload's, or else 1")
 };
 
-/// What help says of the policy at a hook, after what the hook decides.
-macro_rules! hook_help {
-    ($decides:literal) => {
-        concat!(
-            "Decides ",
-            $decides
-        )
-    };
-}
-
 /// The policies of `simulate`.
 const HOOK_OPTIONS: &[OptionText] = options! {
     "Policies, each a file that bqsim check accepts, or none (the default) for the discipline's own choice";
-    ("place", Once("POLICY"), hook_help!("where a woken task goes")),
-    ("preempt", Once("POLICY"), hook_help!("whether the running task gives way")),
-    ("pull", Once("POLICY"), hook_help!("which task another processor pulls"))
+    ("place", Once("POLICY"), "Decides where a woken task goes"),
+    ("preempt", Once("POLICY"), "Decides whether the running task gives way"),
+    ("pull", Once("POLICY"), "Decides which task another processor pulls")
 };
 
 /// The seeds of `simulate`, and the policies that its own are compared with.
