@@ -3,6 +3,7 @@
 //!
 //! A command's words come as text, its file as bytes, and its answer goes back as text. So what a command does is a function of
 //! both, with a contract: the verdict, the listing. Why a file is no policy is said in words that are only tested.
+//! `PolicyWords` are the words of `import` and `asm` too; `RunWords` and `ReportWords` are those of bq_policy_run.
 #![tactic(auto)]
 
 mod accepting;
