@@ -6,7 +6,7 @@ ghost use Rattle.bq_cli.specs.Words.{AreHookWords, AreMachineWords, AreSimulateW
 
 use crate::read_limits::{most_bytes, most_events};
 use crate::refusing::refusal;
-use crate::simulate_files::{others, policies, workload};
+use crate::simulate_files::{read_other_policies, read_policies, read_workload};
 use crate::timeline::shown_words;
 use bq_comparison::{
     Comparing, ComparingFault, MachineSize, RunPlan, SeedsFault, asked_comparison, compare,
@@ -164,7 +164,7 @@ fn asked_fault(alloc: Global, words: &StudyWords, fault: AskedFault) -> WordsFau
 
 /// The most that is read, and that is run.
 #[derive(Clone, Copy)]
-struct ReadLimits {
+struct Limits {
     /// The most bytes of a file.
     bytes: u64,
     /// The most events of a run.
@@ -178,31 +178,31 @@ pub(crate) fn do_simulate<T: Threads + Sync>(
     words: &SimulateWords,
 ) -> Result<ExitCode, WordsFault> {
     let simulation = simulation_of(rt.alloc(), &words.study)?;
-    let limits = ReadLimits {
+    let limits = Limits {
         bytes: most_bytes(rt.alloc(), &words.max_bytes)?,
         events: most_events(rt.alloc(), &words.max_events)?,
     };
-    match simulated(rt, threads, &words.study, limits, simulation) {
+    match run_and_show(rt, threads, &words.study, limits, simulation) {
         Ok(code) | Err(code) => Ok(code),
     }
 }
 
 /// Runs the workload within these limits, and shows it. An error is the exit status: of a refusal, of a failed write, or of
 /// memory that ran out.
-fn simulated<T: Threads + Sync>(
+fn run_and_show<T: Threads + Sync>(
     rt: &HostRuntime,
     threads: &T,
     words: &StudyWords,
-    limits: ReadLimits,
+    limits: Limits,
     simulation: AskedSimulation,
 ) -> Result<ExitCode, ExitCode> {
-    let ReadLimits { bytes, events } = limits;
-    let workload = workload(rt, words, bytes, simulation.changes)?;
-    let policies = policies(rt, words, bytes)?;
+    let Limits { bytes, events } = limits;
+    let workload = read_workload(rt, words, bytes, simulation.changes)?;
+    let policies = read_policies(rt, words, bytes)?;
     match simulation.shown {
         WorkloadShown::Run(shown) => show_run(rt, &workload, &policies, shown, events),
         WorkloadShown::Figures(asked) => {
-            let others = others(rt, words, bytes)?;
+            let others = read_other_policies(rt, words, bytes)?;
             let others = others.as_ref();
             show_figures(rt, threads, &workload, &policies, others, asked, events)
         }
@@ -272,7 +272,7 @@ fn show_figures<T: Threads + Sync>(
     let Ok(notes) = asked.add_tasks_by_name(rt.alloc(), workload) else {
         return Err(report_out_of_memory(rt));
     };
-    match tabled(rt, threads, workload, ours, others, &asked, event_limit) {
+    match comparison_table(rt, threads, workload, ours, others, &asked, event_limit) {
         Ok(text) => {
             let notes = Lines(notes.as_str());
             let _ = eprint!(rt; "{notes}");
@@ -293,8 +293,8 @@ fn show_figures<T: Threads + Sync>(
     }
 }
 
-/// Runs both sides, and writes the table of their figures.
-fn tabled<T: Threads + Sync>(
+/// Runs all seeds on both sides, and returns the table of their figures.
+fn comparison_table<T: Threads + Sync>(
     rt: &HostRuntime,
     threads: &T,
     workload: &Workload,

@@ -17,7 +17,7 @@ use std::process::ExitCode;
 use std::str::from_utf8;
 
 /// Reads the policies that the words compare with, if they compare; `none` adds none.
-pub(crate) fn others(
+pub(crate) fn read_other_policies(
     rt: &HostRuntime,
     words: &StudyWords,
     most: u64,
@@ -29,15 +29,16 @@ pub(crate) fn others(
     for path in &words.against {
         if path.as_str() != "none" {
             let bytes = policy_bytes(rt, words, most, path)?;
-            let taken = policies.add_by_head(rt.alloc(), bytes.as_slice());
-            attached(rt, path.as_str(), None, taken)?;
+            if let Err(fault) = policies.add_by_head(rt.alloc(), bytes.as_slice()) {
+                return Err(report_unattached(rt, path.as_str(), None, fault));
+            }
         }
     }
     Ok(Some(policies))
 }
 
 /// Reads the workload of the file that the words name.
-pub(crate) fn workload(
+pub(crate) fn read_workload(
     rt: &HostRuntime,
     words: &StudyWords,
     most: u64,
@@ -85,7 +86,7 @@ fn foreign_text(bytes: &[u8]) -> Option<&'static str> {
 }
 
 /// Reads the policies that the words install at the hooks.
-pub(crate) fn policies(
+pub(crate) fn read_policies(
     rt: &HostRuntime,
     words: &StudyWords,
     most: u64,
@@ -119,8 +120,9 @@ fn add(
     }
     let bytes = policy_bytes(rt, words, most, path)?;
     match policies.add(rt.alloc(), hook, bytes.as_slice()) {
+        Ok(()) => Ok(()),
         Err(AttachFault::Hook) => Err(report_other_hook(rt, path.as_str(), hook, bytes.as_slice())),
-        taken => attached(rt, path.as_str(), Some(hook), taken),
+        Err(fault) => Err(report_unattached(rt, path.as_str(), Some(hook), fault)),
     }
 }
 
@@ -153,7 +155,7 @@ fn policy_bytes(
     if path != "-" {
         return match read_input(rt, Some(path), most) {
             Ok(bytes) => Ok(bytes),
-            Err(error) => Err(say_no_policy(rt, path, &error)),
+            Err(error) => Err(report_no_policy(rt, path, &error)),
         };
     }
     if file_named(&words.shown.file).is_none() {
@@ -164,7 +166,7 @@ fn policy_bytes(
 }
 
 /// Says why the file of a policy can't be read. Where it would be, a discipline may have been named.
-fn say_no_policy(rt: &HostRuntime, path: &str, error: &Error) -> ExitCode {
+fn report_no_policy(rt: &HostRuntime, path: &str, error: &Error) -> ExitCode {
     let code = report_unread(rt, Some(path), error);
     if error.kind() == ErrorKind::NotFound {
         if let Some(discipline) = DisciplineName::of_word(path.as_bytes()) {
@@ -178,27 +180,31 @@ fn say_no_policy(rt: &HostRuntime, path: &str, error: &Error) -> ExitCode {
 }
 
 /// Says why a file is no policy for the hook that the words name, or if they name none, for the hook that it says.
-fn attached(
+fn report_unattached(
     rt: &HostRuntime,
     path: &str,
     hook: Option<Hook>,
-    taken: Result<(), AttachFault>,
-) -> Result<(), ExitCode> {
-    match taken {
-        Ok(()) => Ok(()),
-        Err(AttachFault::OutOfMemory) => Err(report_out_of_memory(rt)),
-        Err(AttachFault::Program(fault)) => Err(unaccepted(rt, path, hook, fault)),
-        Err(fault) => {
+    fault: AttachFault,
+) -> ExitCode {
+    match fault {
+        AttachFault::OutOfMemory => report_out_of_memory(rt),
+        AttachFault::Program(fault) => report_unaccepted(rt, path, hook, fault),
+        fault => {
             let path = Name(path);
             let _ = eprintln!(rt; "{path}: {fault}");
-            Err(ExitCode::from(BAD_INPUT))
+            ExitCode::from(BAD_INPUT)
         }
     }
 }
 
 /// Says that a file's program is refused, by the name that `check` gives the fault, and which command explains it. That command
 /// names the hook if the words do, since the file may not.
-fn unaccepted(rt: &HostRuntime, path: &str, hook: Option<Hook>, fault: LoadFault) -> ExitCode {
+fn report_unaccepted(
+    rt: &HostRuntime,
+    path: &str,
+    hook: Option<Hook>,
+    fault: LoadFault,
+) -> ExitCode {
     let Ok(named) = fault_text(rt.alloc(), fault) else {
         return report_out_of_memory(rt);
     };
