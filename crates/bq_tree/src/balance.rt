@@ -9,8 +9,8 @@ use crate::summary::Summary;
 use bq_disc::node::Link;
 use bq_disc::{Entity, Node};
 
-/// Above the height of any balanced tree of 2^16 tasks.
-const HIGHEST: u8 = 100;
+/// Above the height of any balanced tree of 2^16 tasks, which is at most 22.
+pub(crate) const HIGHEST: u8 = 100;
 
 /// The height of a tree.
 pub(crate) fn height(link: &Link) -> u8

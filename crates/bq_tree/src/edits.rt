@@ -8,7 +8,7 @@ ghost use Rattle.bq_disc.specs.Rising.{IsRising};
 ghost use Rattle.bq_tree.specs.Trees.{in_order_behind, height_behind, IsTreeBehind, HasNoLeft, DifferByAtMost, left_behind, right_behind};
 ghost use Rattle.bq_tree.specs.Taking.{is_task_at, TakesOut};
 
-use crate::balance::{gathered, height, leaf, opened, rebalance, rebalanced};
+use crate::balance::{HIGHEST, gathered, height, leaf, opened, rebalance, rebalanced};
 use crate::summary::Summary;
 use bq_disc::node::Link;
 use bq_disc::{Entity, Node};
@@ -18,7 +18,7 @@ pub(crate) fn insert_into<S: Summary>(link: &mut Link, node: Box<Node>) -> bool
     requires lone { IsLone node.value }
     requires tree { IsTreeBehind S.knows link.old }
     requires rising { IsRising (in_order_behind link.old) }
-    requires low { height_behind link.old ≤ 90 }
+    requires low { height_behind link.old ≤ HIGHEST }
     requires few { length (in_order_behind link.old) < 2 ^ 16 }
     ensures tree { IsTreeBehind S.knows link.new }
     ensures order { in_order_behind link.new ≡ inserted (task_of node.value) (in_order_behind link.old) }
@@ -69,7 +69,7 @@ fn pop_root<S: Summary>(link: &mut Link) -> Link
 /// Takes the first node out of a tree.
 pub(crate) fn pop_least<S: Summary>(link: &mut Link) -> Link
     requires tree { IsTreeBehind S.knows link.old }
-    requires low { height_behind link.old ≤ 90 }
+    requires low { height_behind link.old ≤ HIGHEST }
     requires few { length (in_order_behind link.old) ≤ 2 ^ 16 }
     ensures order { in_order_behind link.old ≡ option_to_list (option_map (λ b. task_of b.value) result) ++ in_order_behind link.new }
     ensures none { IfNone result ((link.old ≡ None) × (link.new ≡ None)) }
@@ -99,7 +99,7 @@ fn joined<S: Summary>(left: Link, mut right: Link) -> Link
     requires left { IsTreeBehind S.knows left }
     requires right { IsTreeBehind S.knows right }
     requires balanced { DifferByAtMost 1 (height_behind left) (height_behind right) }
-    requires low { max (height_behind left) (height_behind right) ≤ 90 }
+    requires low { max (height_behind left) (height_behind right) ≤ HIGHEST }
     requires few { length (in_order_behind left) + length (in_order_behind right) < 2 ^ 16 }
     ensures order { in_order_behind result ≡ in_order_behind left ++ in_order_behind right }
     ensures tree { IsTreeBehind S.knows result }
@@ -118,7 +118,7 @@ fn joined<S: Summary>(left: Link, mut right: Link) -> Link
 /// Takes the root out of a tree.
 fn pop<S: Summary>(link: &mut Link) -> Link
     requires tree { IsTreeBehind S.knows link.old }
-    requires low { height_behind link.old ≤ 90 }
+    requires low { height_behind link.old ≤ HIGHEST }
     requires few { length (in_order_behind link.old) ≤ 2 ^ 16 }
     ensures root { option_map (λ b. task_of b.value) result ≡ option_map (λ b. task_of b.value) link.old }
     ensures order { in_order_behind link.new ≡ in_order_behind (left_behind link.old) ++ in_order_behind (right_behind link.old) }
@@ -150,7 +150,7 @@ pub(crate) fn is_after(entity: &Entity, v: u64, id: u16) -> bool
 pub(crate) fn take_from<S: Summary>(link: &mut Link, v: u64, id: u16) -> Link
     requires tree { IsTreeBehind S.knows link.old }
     requires rising { IsRising (in_order_behind link.old) }
-    requires low { height_behind link.old ≤ 90 }
+    requires low { height_behind link.old ≤ HIGHEST }
     requires few { length (in_order_behind link.old) ≤ 2 ^ 16 }
     ensures taken { TakesOut v id (in_order_behind link.old) (option_map (λ b. task_of b.value) result) (in_order_behind link.new) }
     ensures same { IfNone result (link.new ≡ link.old) }
