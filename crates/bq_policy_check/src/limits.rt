@@ -74,14 +74,14 @@ fn hooks_in(alloc: Global, word: &Option<String>) -> Result<Option<Vec<Hook>>, W
     match hooks_of(alloc, word.as_str())? {
         Some(hooks) => Ok(Some(hooks)),
         None => {
-            let wrong = no_hook(word);
+            let wrong = first_wrong_hook(word);
             Err(words_fault(value_words(alloc, "hooks", wrong, HOOKS, HOOK_WORDS)))
         }
     }
 }
 
 /// Returns the first part between commas that is no hook, or the whole text if each is one.
-fn no_hook(text: &str) -> &str {
+fn first_wrong_hook(text: &str) -> &str {
     for part in text.split(',') {
         if Hook::of_word(part.as_bytes()).is_none() {
             return part;
@@ -127,14 +127,17 @@ fn helpers_in(alloc: Global, word: &Option<String>) -> Result<Option<Vec<i32>>, 
     let Some(word) = word else {
         return Ok(None);
     };
-    match numbers_of(alloc, word.as_str())? {
-        Some(numbers) => Ok(Some(numbers)),
-        None => Err(words_fault(value_words(alloc, "helpers", no_helper(word), HELPERS, ""))),
+    match helpers_of(alloc, word.as_str())? {
+        Some(helpers) => Ok(Some(helpers)),
+        None => {
+            let wrong = first_wrong_helper(word);
+            Err(words_fault(value_words(alloc, "helpers", wrong, HELPERS, "")))
+        }
     }
 }
 
 /// Returns the first part between commas that is no helper, or the whole text if each is one.
-fn no_helper(text: &str) -> &str {
+fn first_wrong_helper(text: &str) -> &str {
     for part in text.split(',') {
         if helper(part.as_bytes()).is_none() {
             return part;
@@ -145,27 +148,27 @@ fn no_helper(text: &str) -> &str {
 
 /// Returns the helpers of a text with commas between; none of an empty text.
 #[tactic(auto, using(crate::proofs::ListLemmas::none_named, crate::proofs::ListLemmas::all_named, crate::proofs::ListLemmas::not_named))]
-fn numbers_of(alloc: Global, text: &str) -> Result<Option<Vec<i32>>, AllocError>
+fn helpers_of(alloc: Global, text: &str) -> Result<Option<Vec<i32>>, AllocError>
     ensures { IfOk result (λ named. MatchOption named (NamesNoHelpers text.now) (NamesHelpers text.now)) }
 {
-    let mut numbers = Vec::new(alloc);
+    let mut helpers = Vec::new(alloc);
     if text.is_empty() {
-        return Ok(Some(numbers));
+        return Ok(Some(helpers));
     }
-    if push_numbers(&mut numbers, text)? {
-        return Ok(Some(numbers));
+    if push_helpers(&mut helpers, text)? {
+        return Ok(Some(helpers));
     }
     Ok(None)
 }
 
 /// Adds the helpers of a comma-separated text, up to the first part that is no helper's number. Returns whether all parts are.
-fn push_numbers(numbers: &mut Vec<i32>, text: &str) -> Result<bool, AllocError>
-    requires { numbers.old.items ≡ [] }
-    ensures { IfOk result (ReadsParts IsHelperWord text.now numbers.new.items) }
+fn push_helpers(helpers: &mut Vec<i32>, text: &str) -> Result<bool, AllocError>
+    requires { helpers.old.items ≡ [] }
+    ensures { IfOk result (ReadsParts IsHelperWord text.now helpers.new.items) }
 {
     for part in text.split(',') {
         match helper(part.as_bytes()) {
-            Some(helper) => numbers.push(helper)?,
+            Some(helper) => helpers.push(helper)?,
             None => return Ok(false),
         }
     }

@@ -4,7 +4,7 @@ use Rattle.std.proofs.lemmas.Iterator.Consumers.{YieldsList-turn, YieldsList-end
 use Rattle.bq_words.specs.Words.{parts}
 use Rattle.bq_policy_check.specs.Limiting.{IsHelperWord}
 use Rattle.bq_policy_check.proofs.ListLemmas.{ReadsOn, read_more, read_all, one_none}
-use Rattle.bq_policy_check.proofs.limits.push_numbers.Goals as goal
+use Rattle.bq_policy_check.proofs.limits.push_helpers.Goals as goal
 
 pub loop-part-preserved : goal.loop-part-preserved
 loop-part-preserved c =
@@ -17,9 +17,9 @@ loop-part-preserved c =
     let fits : FitsSigned w32 c.in-Some-helper.helper = search rules in
     let is : IsHelperWord (get_or words (length yielded) c.in-Some.part.now) c.in-Some-helper.helper =
     subst (λ (part : List ℕ). IsHelperWord part c.in-Some-helper.helper) turn.1 read in
-    let pushed = c.in_ok-push-in-Some-helper.ensures.items ∙ ap (λ (z : ℤ). c.loop-part.numbers.items ++ z ∷ []) (to_z-of_z fits) in
+    let pushed = c.in_ok-push-in-Some-helper.ensures.items ∙ ap (λ (z : ℤ). c.loop-part.helpers.items ++ z ∷ []) (to_z-of_z fits) in
     let more =
-    read_more IsHelperWord words (length yielded) c.in-Some.part.now c.loop-part.numbers.items c.push.new.self.items
+    read_more IsHelperWord words (length yielded) c.in-Some.part.now c.loop-part.helpers.items c.push.new.self.items
     c.in-Some-helper.helper turn.0 is pushed c.loop-part.invariant in
     subst (λ (k : ℕ). ReadsOn IsHelperWord words k c.push.new.self.items) (sym (length-append yielded (c.in-Some.part ∷ []))) more
 
@@ -43,4 +43,4 @@ returns c =
     YieldsList-end (YieldsList-from_str_split 44 c.args.text.now (omega arith) (cc) (cc) (cc)) yielded _
     c.loop-part.yielded_by _ _ c.in-None.is c.next.ensures.steps in
     let all : length words ≤ length yielded = omega (arith, end.1) in
-    read_all IsHelperWord words (length yielded) c.loop-part.numbers.items all c.loop-part.invariant
+    read_all IsHelperWord words (length yielded) c.loop-part.helpers.items all c.loop-part.invariant
