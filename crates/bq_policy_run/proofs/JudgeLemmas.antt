@@ -8,6 +8,7 @@ use Rattle.bq_hooks.specs.declared.hook.Version.{Version}
 use Rattle.bq_hooks.specs.declared.hook.Version.TheVariants.{First, Second}
 use Rattle.bq_policy_run.specs.declared.permitted.Permission.{Permission}
 use Rattle.bq_policy_run.specs.declared.permitted.Permission.TheVariants.{Permitted, NotPermitted, NotShown}
+use Rattle.bq_policy_run.specs.declared.permitted.TheConstants.{PLACE_SHOWN}
 use Rattle.bq_policy_run.specs.Permitting.{place_permits, permission_of}
 use Rattle.bq_policy_run.specs.Judging.{BeginsWithWord, word_begins}
 
@@ -25,7 +26,7 @@ not_permitted_is_left word (inl e) other = e
 not_permitted_is_left word (inr e) other = absurd (other e)
 
 -- a place context is long enough for its fields
-place_long : (v : Version) (n : ℕ) → n ≡ context_length_of Place v → 36 ≤ n
+place_long : (v : Version) (n : ℕ) → n ≡ context_length_of Place v → PLACE_SHOWN ≤ n
 place_long First n h = omega (arith, h)
 place_long Second n h = omega (arith, h)
 
@@ -37,7 +38,7 @@ by_test false h = cc
 -- on a place
 pub judged_place : (hook : Hook) (context : List ℕ) (r0 : ℕ) (word : Permission) (text : List ℕ)
     → hook ≡ Place → ((v : Version) → length context ≡ context_length_of hook v → word ≡ permission_of hook context r0)
-    → (36 ≤ length context → word ≢ NotShown → BeginsWithWord word text)
+    → (PLACE_SHOWN ≤ length context → word ≢ NotShown → BeginsWithWord word text)
     → (v : Version) → length context ≡ context_length_of hook v
     → BeginsWithWord (permission_of hook context r0) text
 judged_place hook context r0 word text at is reported v h =

@@ -4,6 +4,8 @@ ghost use Rattle.byteorder.specs.Endian.{little_number};
 ghost use Rattle.bq_policy_run.specs.Permitting.{hides_tasks, context_number, place_permits, place_permission, preempt_permission, pull_permission, shows_task, permission_of};
 ghost use Rattle.bq_hooks.specs.Hooks.{context_length_of};
 ghost use Rattle.bq_hooks.specs.declared.hook.Version.{Version as VersionValue};
+ghost use Rattle.bq_hooks.specs.declared.pull.TheConstants.{PULL_LENGTH};
+ghost use Rattle.bq_policy_run.specs.declared.permitted.TheConstants.{PLACE_SHOWN};
 
 use bq_disc::limits::PROCESSORS;
 use bq_disc::mask::allows;
@@ -43,7 +45,7 @@ pub fn permission_of(hook: Hook, context: &[u8], r0: u64) -> Permission
 
 /// Judges an answer to `place`; nothing is permitted for a context that is too short to show the machine.
 fn place_permission(context: &[u8], r0: u64) -> Permission
-    ensures { 36 ≤ length context.now → result ≡ place_permission context.now r0 }
+    ensures { PLACE_SHOWN ≤ length context.now → result ≡ place_permission context.now r0 }
 {
     if context.len() >= PLACE_SHOWN && place_permits(context, r0) {
         Permission::Permitted
@@ -54,7 +56,7 @@ fn place_permission(context: &[u8], r0: u64) -> Permission
 
 /// Returns whether the answer is a processor of the machine, in the task's mask.
 fn place_permits(context: &[u8], r0: u64) -> bool
-    requires { 36 ≤ length context.now }
+    requires { PLACE_SHOWN ≤ length context.now }
     ensures { result ≡ place_permits context.now r0 }
 {
     let (count, mask) = place_shown(context);
@@ -63,7 +65,7 @@ fn place_permits(context: &[u8], r0: u64) -> bool
 
 /// Returns how many processors a place context shows, and the task's mask.
 pub fn place_shown(context: &[u8]) -> (u32, u64)
-    requires { 36 ≤ length context.now }
+    requires { PLACE_SHOWN ≤ length context.now }
     ensures count { result.0 ≡ context_number context.now 32 }
     ensures mask { result.1 ≡ little_number 8 (slice_range context.now 8 16) }
 {
@@ -87,7 +89,7 @@ fn preempt_permission(r0: u64) -> Permission
 
 /// Judges an answer to `pull`: nobody and each task that the context shows are permitted; another task may be hidden.
 fn pull_permission(context: &[u8], r0: u64) -> Permission
-    ensures { 160 ≤ length context.now → result ≡ pull_permission context.now r0 }
+    ensures { PULL_LENGTH ≤ length context.now → result ≡ pull_permission context.now r0 }
 {
     if r0 == NOBODY {
         return Permission::Permitted;
@@ -115,7 +117,7 @@ fn number_at(context: &[u8], at: usize) -> u32
 
 /// Returns whether one of the tasks that are shown has that number.
 fn shows_task(context: &[u8], r0: u64) -> bool
-    requires { 160 ≤ length context.now }
+    requires { PULL_LENGTH ≤ length context.now }
     ensures { result ≡ shows_task context.now r0 }
 {
     let shown = number_at(context, SHOWN_AT).min(SHOWN);
@@ -130,7 +132,7 @@ fn shows_task(context: &[u8], r0: u64) -> bool
 
 /// Returns whether more tasks are movable than are shown.
 fn hides_tasks(context: &[u8]) -> bool
-    requires { 160 ≤ length context.now }
+    requires { PULL_LENGTH ≤ length context.now }
     ensures { result ≡ hides_tasks context.now }
 {
     number_at(context, MOVABLE_AT) > number_at(context, SHOWN_AT)

@@ -1,6 +1,7 @@
 //! The rule's word on the answer of a run.
 ghost use Rattle.std.specs.Prelude.{◌≢◌, ◌≤◌, length, IfOk, string_bytes};
 ghost use Rattle.bq_policy_run.specs.declared.permitted.Permission.TheVariants.{NotPermitted, NotShown, Permitted};
+ghost use Rattle.bq_policy_run.specs.declared.permitted.TheConstants.{PLACE_SHOWN};
 ghost use Rattle.bq_policy_run.specs.Judging.{BeginsWithPermission, BeginsWithWord};
 
 use crate::permitted::NOBODY;
@@ -32,7 +33,7 @@ fn place_text(
     r0: u64,
     word: Permission,
 ) -> Result<String, AllocError>
-    ensures { IfOk result (λ text. 36 ≤ length context.now → word ≢ NotShown → BeginsWithWord word (string_bytes text)) }
+    ensures { IfOk result (λ text. PLACE_SHOWN ≤ length context.now → word ≢ NotShown → BeginsWithWord word (string_bytes text)) }
 {
     if context.len() < PLACE_SHOWN {
         return String::from_str(alloc, "not permitted: the context shows no processors");

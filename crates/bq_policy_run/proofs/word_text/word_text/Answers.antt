@@ -3,6 +3,7 @@ use Rattle.std.specs.Prelude.{◌≢◌, string_bytes}
 use Rattle.std.proofs.lemmas.Result.{IfOk-weaker}
 use Rattle.bq_policy_run.specs.Permitting.{permission_of}
 use Rattle.bq_policy_run.specs.declared.permitted.Permission.TheVariants.{NotShown}
+use Rattle.bq_policy_run.specs.declared.permitted.TheConstants.{PLACE_SHOWN}
 use Rattle.bq_hooks.specs.Hooks.{context_length_of}
 use Rattle.bq_hooks.specs.declared.hook.Version.{Version}
 use Rattle.bq_policy_run.specs.Judging.{BeginsWithWord}
@@ -13,7 +14,7 @@ pub returns-in-Place : goal.returns-in-Place
 returns-in-Place c =
     let context = c.args.context.now in
     let word = c.permission_of-word.result in
-    IfOk-weaker c.place_text.result (λ text. 36 ≤ length context → word ≢ NotShown → BeginsWithWord word (string_bytes text))
+    IfOk-weaker c.place_text.result (λ text. PLACE_SHOWN ≤ length context → word ≢ NotShown → BeginsWithWord word (string_bytes text))
     (λ text.
     (version : Version) → length context ≡ context_length_of c.args.hook version →
     BeginsWithWord (permission_of c.args.hook context c.args.r0) (string_bytes text))
