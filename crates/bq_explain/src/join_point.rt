@@ -5,16 +5,15 @@ ghost use Rattle.bq_explain.specs.Makers.{CanBeWalked};
 
 use crate::after::known_after;
 use crate::program_point::{ProgramPoint, place_at};
-use crate::ways::{Ways, find_reaching, is_marked, spares};
+use crate::ways::{Walk, find_reaching, is_marked, spares};
 use bq_bpf::MapShape;
 use bq_insn::{Insn, SLOTS};
-use bq_policy_file::PolicySource;
 use bq_states::abstract_state::{AbstractValue, ValueKind};
 use bq_states::places::shape_of;
 use bq_states::registers::known;
+use bq_verify::KnownStates;
 use bq_verify::graph_numbers::targets;
 use bq_verify::targets::instruction;
-use bq_verify::{KnownStates, PolicyForm};
 use std::alloc::{AllocError, Global};
 
 /// The most slots at which the ways that meet are compared.
@@ -41,44 +40,39 @@ pub struct IncomingWay {
     pub known: AbstractValue,
 }
 
-/// Finds the last slot on the ways to `slot` into which two ways bring different words in the register, which no later
-/// instruction writes.
+/// Finds the last slot up to `slot` where two ways meet on which the register holds different words. Between there and `slot` no
+/// instruction writes the register.
 pub(crate) fn find_join_point(
     alloc: Global,
-    policy: &PolicySource,
-    slots: &[Option<Insn>],
-    states: &KnownStates,
-    ways: &Ways,
+    walk: &Walk<'_>,
     register: u8,
     slot: usize,
 ) -> Result<Option<JoinPoint>, AllocError>
-    requires walkable { CanBeWalked slots.now }
-    requires inside { slot < length slots.now }
+    requires walkable { CanBeWalked walk.now.slots.now }
+    requires inside { slot < length walk.now.slots.now }
 {
-    let reaching = find_reaching(alloc, slots, ways, register, slot)?;
+    let reaching = find_reaching(alloc, walk, register, slot)?;
     let mut tried: usize = 0;
     for back in 0..slot {
         let here = slot - back;
         let is_on_way = here == slot
-            || (is_marked(reaching.as_slice(), here) && spares(slots, register, here));
+            || (is_marked(reaching.as_slice(), here) && spares(walk.slots, register, here));
         if tried < TRIED && is_on_way {
-            let from = find_predecessors(alloc, slots, here)?;
+            let from = find_predecessors(alloc, walk.slots, here)?;
             if from.len() > 1 {
                 tried = tried.saturating_add(1);
                 let incoming_ways = find_incoming_ways(
                     alloc,
-                    policy,
-                    slots,
-                    states,
+                    walk,
                     from.as_slice(),
                     here,
                     register,
                 )?;
                 if let Some(pair) = find_differing(
-                    policy.form.shapes.as_slice(),
+                    walk.policy.form.shapes.as_slice(),
                     incoming_ways.as_slice(),
                 ) {
-                    let known = known_at(states, here, register);
+                    let known = known_at(walk.states, here, register);
                     return Ok(Some(pair.join_at(register, here, known)));
                 }
             }
@@ -129,17 +123,15 @@ fn is_to(target: Option<usize>, to: usize) -> bool {
 /// Lists the ways from these slots into the slot `to` on which something is known of the register.
 fn find_incoming_ways(
     alloc: Global,
-    policy: &PolicySource,
-    slots: &[Option<Insn>],
-    states: &KnownStates,
+    walk: &Walk<'_>,
     from: &[usize],
     to: usize,
     register: u8,
 ) -> Result<Vec<IncomingWay>, AllocError> {
     let mut incoming_ways = Vec::new(alloc);
     for slot in from {
-        let known = known_behind(&policy.form, slots, states, *slot, to, register);
-        if let (Some(place), Some(known)) = (place_at(policy, slots, *slot), known) {
+        let known = known_behind(walk, *slot, to, register);
+        if let (Some(place), Some(known)) = (place_at(walk.policy, walk.slots, *slot), known) {
             incoming_ways.push(IncomingWay { place, known })?;
         }
     }
@@ -148,14 +140,12 @@ fn find_incoming_ways(
 
 /// Finds what is known of the register on the step from the one slot to the other.
 pub(crate) fn known_behind(
-    form: &PolicyForm,
-    slots: &[Option<Insn>],
-    states: &KnownStates,
+    walk: &Walk<'_>,
     from: usize,
     to: usize,
     register: u8,
 ) -> Option<AbstractValue> {
-    let state = known_after(form, slots, states, from, to)?;
+    let state = known_after(&walk.policy.form, walk.slots, walk.states, from, to)?;
     known(&state, register)
 }
 
@@ -164,7 +154,7 @@ pub(crate) fn known_at(states: &KnownStates, slot: usize, register: u8) -> Optio
     known(states.at(slot)?, register)
 }
 
-/// Pairs the first of the ways with one on which the register holds a different word.
+/// Pairs the first way with the next one on which the register holds a different word; None if it holds the same word on all.
 fn find_differing(shapes: &[MapShape], incoming_ways: &[IncomingWay]) -> Option<WayPair> {
     let [first, rest @ ..] = incoming_ways else {
         return None;

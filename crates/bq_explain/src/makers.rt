@@ -5,7 +5,7 @@ ghost use Rattle.bq_explain.specs.Makers.{AreLeading, AreOnTrail, IsMaker, IsOnT
 ghost use Rattle.bq_explain.specs.declared.makers.Maker.{Maker as MakerValue};
 ghost use Rattle.bq_verify.specs.Straight.{spares};
 
-use crate::ways::{Ways, find_reaching, is_marked};
+use crate::ways::{Walk, find_reaching, is_marked};
 use bq_bpf::instruction::destination;
 use bq_insn::{Insn, REGISTERS, SLOTS};
 use bq_needs::{Registers, read_registers};
@@ -13,12 +13,13 @@ use bq_verify::graph_numbers::targets;
 use bq_verify::targets::{Targets, instruction};
 use std::alloc::{AllocError, Global};
 
-/// What an instruction is to the ways from a writer of a register to a slot, on which no other instruction writes it.
+/// The role of an instruction in the ways that bring a register's value to a slot. Each of the ways begins with an instruction that
+/// writes the register, and no later instruction on it does.
 #[derive(Clone, Copy)]
 enum Role {
     /// The instruction is on none of the ways.
     Off,
-    /// The instruction begins a way, for it writes the register.
+    /// The instruction begins a way: it writes the register.
     Makes,
     /// The instruction is on a way, and does not write the register.
     Leads,
@@ -66,7 +67,7 @@ fn one_leads_on(leading: &[bool], targets: Targets) -> bool
     leads_on(leading, targets.next) || leads_on(leading, targets.jump)
 }
 
-/// The instructions whose value the register may hold at the slot, the nearest first.
+/// Lists the slots of the instructions whose value the register may hold at `slot`, the nearest first.
 pub(crate) fn find_makers(
     alloc: Global,
     slots: &[Option<Insn>],
@@ -82,8 +83,8 @@ pub(crate) fn find_makers(
     sweep_makers(alloc, slots, register, slot, leading.as_mut_slice())
 }
 
-/// Finds what `find_makers` answers. `leading` marks the slots from which a way that spares the register leads to the slot; at first
-/// it marks none.
+/// Lists what `find_makers` answers, in one sweep from `slot` back to the start. At first `leading` marks no slot. The sweep marks
+/// each slot from which a way leads to `slot` on which no instruction writes the register.
 fn sweep_makers(
     alloc: Global,
     slots: &[Option<Insn>],
@@ -145,26 +146,25 @@ pub struct Maker {
 /// The most makers that a trail names.
 const MOST_MAKERS: usize = 6;
 
-/// The instructions whose values the asked registers may hold at the slot, the nearest first, and then the instructions whose
-/// values those read, and so on; each on a way that a run may take.
+/// Lists the instructions that made the asked registers as they are at the slot, the nearest first. Then come those that made what
+/// these read, and so on, `MOST_MAKERS` at most. From each a run may come to the slot.
 pub(crate) fn find_makers_on_trail(
     alloc: Global,
-    slots: &[Option<Insn>],
-    ways: &Ways,
+    walk: &Walk<'_>,
     slot: usize,
     asked: &Registers,
 ) -> Result<Vec<Maker>, AllocError>
-    requires inside { slot < length slots.now }
-    requires short { length slots.now ≤ SLOTS }
-    requires sound { IsGraphSound slots.now }
-    ensures { IfOk result (λ trail. AreOnTrail slots.now slot asked.now trail.items) }
+    requires inside { slot < length walk.now.slots.now }
+    requires short { length walk.now.slots.now ≤ SLOTS }
+    requires sound { IsGraphSound walk.now.slots.now }
+    ensures { IfOk result (λ trail. AreOnTrail walk.now.slots.now slot asked.now trail.items) }
 {
     let mut trail = Vec::new(alloc);
-    push_makers(alloc, slots, ways, slot, asked, &mut trail)?;
+    push_makers(alloc, walk, slot, asked, &mut trail)?;
     for at in 0..MOST_MAKERS {
         if at < trail.len() {
             let maker = trail[at];
-            push_operands(alloc, slots, ways, maker, &mut trail)?;
+            push_operands(alloc, walk, maker, &mut trail)?;
         }
     }
     Ok(trail)
@@ -173,50 +173,48 @@ pub(crate) fn find_makers_on_trail(
 /// Adds the instructions that made what the maker reads, as long as there is room.
 fn push_operands(
     alloc: Global,
-    slots: &[Option<Insn>],
-    ways: &Ways,
+    walk: &Walk<'_>,
     maker: Maker,
     trail: &mut Vec<Maker>,
 ) -> Result<(), AllocError>
-    requires short { length slots.now ≤ SLOTS }
-    requires sound { IsGraphSound slots.now }
-    ensures { OnOk result ((slot : ℕ) (asked : List Bool) → IsOnTrail slots.now slot asked maker.register maker.slot
-        → AreOnTrail slots.now slot asked trail.old.items → AreOnTrail slots.now slot asked trail.new.items) }
+    requires short { length walk.now.slots.now ≤ SLOTS }
+    requires sound { IsGraphSound walk.now.slots.now }
+    ensures { OnOk result ((slot : ℕ) (asked : List Bool) → IsOnTrail walk.now.slots.now slot asked maker.register maker.slot
+        → AreOnTrail walk.now.slots.now slot asked trail.old.items → AreOnTrail walk.now.slots.now slot asked trail.new.items) }
 {
-    if maker.slot >= slots.len() {
+    if maker.slot >= walk.slots.len() {
         return Ok(());
     }
-    let Some(insn) = instruction(slots, maker.slot) else {
+    let Some(insn) = instruction(walk.slots, maker.slot) else {
         return Ok(());
     };
-    push_makers(alloc, slots, ways, maker.slot, &read_registers(insn), trail)
+    push_makers(alloc, walk, maker.slot, &read_registers(insn), trail)
 }
 
-/// Adds the instructions whose values the registers may hold at the slot, as long as there is room.
+/// Adds the instructions that made the registers as they are at the slot, as long as there is room.
 fn push_makers(
     alloc: Global,
-    slots: &[Option<Insn>],
-    ways: &Ways,
+    walk: &Walk<'_>,
     slot: usize,
     asked: &Registers,
     trail: &mut Vec<Maker>,
 ) -> Result<(), AllocError>
-    requires inside { slot < length slots.now }
-    requires short { length slots.now ≤ SLOTS }
-    requires sound { IsGraphSound slots.now }
-    ensures { OnOk result ((maker : MakerValue) → Contains trail.new.items maker → Contains trail.old.items maker ⊎ MakesAsked slots.now slot asked.now maker) }
+    requires inside { slot < length walk.now.slots.now }
+    requires short { length walk.now.slots.now ≤ SLOTS }
+    requires sound { IsGraphSound walk.now.slots.now }
+    ensures { OnOk result ((maker : MakerValue) → Contains trail.new.items maker → Contains trail.old.items maker ⊎ MakesAsked walk.now.slots.now slot asked.now maker) }
 {
     for register in 0..REGISTERS as u8 {
         if asked[usize::from(register)] {
-            let made = find_makers(alloc, slots, register, slot)?;
-            let reaching = find_reaching(alloc, slots, ways, register, slot)?;
+            let made = find_makers(alloc, walk.slots, register, slot)?;
+            let reaching = find_reaching(alloc, walk, register, slot)?;
             push_named(register, made.as_slice(), reaching.as_slice(), trail)?;
         }
     }
     Ok(())
 }
 
-/// Adds the makers of the register from which a run may come and that are not on the trail yet, as long as there is room.
+/// Adds those makers of the register that are not on the trail yet and from which a run may come, as long as there is room.
 fn push_named(
     register: u8,
     made: &[usize],

@@ -8,7 +8,7 @@ ghost use Rattle.bq_explain.specs.TrailTexts.{leaves_unset};
 use crate::join_point::{JoinPoint, find_join_point, known_at, known_behind};
 use crate::makers::{Maker, find_makers, find_makers_on_trail};
 use crate::program_point::{ProgramPoint, place_at};
-use crate::ways::{Ways, find_reaching, find_ways_before, is_marked, spares};
+use crate::ways::{Walk, find_reaching, find_ways_before, is_marked, spares};
 use bq_insn::{Insn, REGISTERS, SLOTS};
 use bq_needs::{Registers, read_registers};
 use bq_policy_file::PolicySource;
@@ -20,7 +20,7 @@ use std::alloc::{AllocError, Global};
 /// The most join points that a trail names.
 const JOINS: usize = 3;
 
-/// The most calls for which it is looked up whether something is known before the call.
+/// The most calls before which a trail looks up what is known.
 const CALLS: usize = 4;
 
 /// Where the registers come from that a need asks for.
@@ -99,24 +99,22 @@ pub(crate) fn find_trail(
     ensures { IfOk result (λ trail. AreMade slots.now slot asked.now trail.makers.items) }
 {
     let ways = find_ways_before(alloc, slots, states, slot)?;
-    let found = find_makers_on_trail(alloc, slots, &ways, slot, asked)?;
-    let makers = locate_makers(alloc, policy, slots, states, found.as_slice())?;
-    let unset = unset_from_start(alloc, slots, &ways, slot, asked)?;
-    let clobbered = clobbered_by_calls(alloc, slots, states, &ways, slot, asked)?;
+    let walk = Walk {
+        policy,
+        slots,
+        states,
+        ways: &ways,
+    };
+    let found = find_makers_on_trail(alloc, &walk, slot, asked)?;
+    let makers = locate_makers(alloc, &walk, found.as_slice())?;
+    let unset = unset_from_start(alloc, &walk, slot, asked)?;
+    let clobbered = clobbered_by_calls(alloc, &walk, slot, asked)?;
     let asked = AskedRegisters {
         slot,
         registers: *asked,
         makers: 0,
     };
-    let joins = find_joins(
-        alloc,
-        policy,
-        slots,
-        states,
-        &ways,
-        asked,
-        makers.as_slice(),
-    )?;
+    let joins = find_joins(alloc, &walk, asked, makers.as_slice())?;
     Ok(Trail {
         makers,
         unset,
@@ -128,16 +126,14 @@ pub(crate) fn find_trail(
 /// Finds the place of each maker, and what is known of the register after that instruction.
 fn locate_makers(
     alloc: Global,
-    policy: &PolicySource,
-    slots: &[Option<Insn>],
-    states: &KnownStates,
+    walk: &Walk<'_>,
     makers: &[Maker],
 ) -> Result<Vec<RegisterMaker>, AllocError>
-    ensures { IfOk result (λ made. AreOf slots.now makers.now made.items) }
+    ensures { IfOk result (λ made. AreOf walk.now.slots.now makers.now made.items) }
 {
     let mut made = Vec::new(alloc);
     for maker in makers {
-        if let Some(one) = locate_maker(policy, slots, states, *maker) {
+        if let Some(one) = locate_maker(walk, *maker) {
             made.push(one)?;
         }
     }
@@ -145,24 +141,12 @@ fn locate_makers(
 }
 
 /// Finds the place of the maker, and what is known of the register after that instruction.
-fn locate_maker(
-    policy: &PolicySource,
-    slots: &[Option<Insn>],
-    states: &KnownStates,
-    maker: Maker,
-) -> Option<RegisterMaker>
-    ensures { IfSome result (IsMadeBy slots.now maker) }
+fn locate_maker(walk: &Walk<'_>, maker: Maker) -> Option<RegisterMaker>
+    ensures { IfSome result (IsMadeBy walk.now.slots.now maker) }
 {
-    let place = place_at(policy, slots, maker.slot)?;
+    let place = place_at(walk.policy, walk.slots, maker.slot)?;
     let next = maker.slot.saturating_add(place.insn.slots());
-    let known = known_behind(
-        &policy.form,
-        slots,
-        states,
-        maker.slot,
-        next,
-        maker.register,
-    );
+    let known = known_behind(walk, maker.slot, next, maker.register);
     Some(RegisterMaker {
         place,
         register: maker.register,
@@ -173,8 +157,7 @@ fn locate_maker(
 /// Finds the asked registers that no instruction sets on some way from the start. At the start r1 and r10 are set.
 fn unset_from_start(
     alloc: Global,
-    slots: &[Option<Insn>],
-    ways: &Ways,
+    walk: &Walk<'_>,
     slot: usize,
     asked: &Registers,
 ) -> Result<Registers, AllocError> {
@@ -182,9 +165,9 @@ fn unset_from_start(
     for register in 0..REGISTERS as u8 {
         let at = usize::from(register);
         if asked[at] && register != CONTEXT_REGISTER && register != FRAME_REGISTER {
-            let reaching = find_reaching(alloc, slots, ways, register, slot)?;
+            let reaching = find_reaching(alloc, walk, register, slot)?;
             unset[at] = slot == 0
-                || (is_marked(reaching.as_slice(), 0) && spares(slots, register, 0));
+                || (is_marked(reaching.as_slice(), 0) && spares(walk.slots, register, 0));
         }
     }
     Ok(unset)
@@ -193,14 +176,12 @@ fn unset_from_start(
 /// Finds the asked registers that a call leaves unset on some way to the slot.
 fn clobbered_by_calls(
     alloc: Global,
-    slots: &[Option<Insn>],
-    states: &KnownStates,
-    ways: &Ways,
+    walk: &Walk<'_>,
     slot: usize,
     asked: &Registers,
 ) -> Result<ClobberedRegisters, AllocError>
-    requires walkable { CanBeWalked slots.now }
-    requires inside { slot < length slots.now }
+    requires walkable { CanBeWalked walk.now.slots.now }
+    requires inside { slot < length walk.now.slots.now }
 {
     let mut clobbered = ClobberedRegisters {
         all: [false; REGISTERS],
@@ -209,9 +190,9 @@ fn clobbered_by_calls(
     for register in 0..REGISTERS as u8 {
         let at = usize::from(register);
         if asked[at] {
-            let calls = calls_before(alloc, slots, ways, register, slot)?;
+            let calls = calls_before(alloc, walk, register, slot)?;
             clobbered.all[at] = !calls.is_empty();
-            clobbered.known_before[at] = is_known_before(states, calls.as_slice(), register);
+            clobbered.known_before[at] = is_known_before(walk.states, calls.as_slice(), register);
         }
     }
     Ok(clobbered)
@@ -220,20 +201,19 @@ fn clobbered_by_calls(
 /// Lists the calls that leave the register unset and from which a run may come to the slot with the register still unset.
 fn calls_before(
     alloc: Global,
-    slots: &[Option<Insn>],
-    ways: &Ways,
+    walk: &Walk<'_>,
     register: u8,
     slot: usize,
 ) -> Result<Vec<usize>, AllocError>
-    requires inside { slot < length slots.now }
-    requires short { length slots.now ≤ SLOTS }
-    requires sound { IsGraphSound slots.now }
+    requires inside { slot < length walk.now.slots.now }
+    requires short { length walk.now.slots.now ≤ SLOTS }
+    requires sound { IsGraphSound walk.now.slots.now }
 {
-    let made = find_makers(alloc, slots, register, slot)?;
-    let reaching = find_reaching(alloc, slots, ways, register, slot)?;
+    let made = find_makers(alloc, walk.slots, register, slot)?;
+    let reaching = find_reaching(alloc, walk, register, slot)?;
     let mut calls = Vec::new(alloc);
     for maker in made.as_slice() {
-        if is_marked(reaching.as_slice(), *maker) && is_clobbered_at(slots, register, *maker) {
+        if is_marked(reaching.as_slice(), *maker) && is_clobbered_at(walk.slots, register, *maker) {
             calls.push(*maker)?;
         }
     }
@@ -261,24 +241,21 @@ fn is_clobbered_at(slots: &[Option<Insn>], register: u8, slot: usize) -> bool {
 /// Lists the join points of the asked registers, and of the registers that the makers read.
 fn find_joins(
     alloc: Global,
-    policy: &PolicySource,
-    slots: &[Option<Insn>],
-    states: &KnownStates,
-    ways: &Ways,
+    walk: &Walk<'_>,
     asked: AskedRegisters,
     makers: &[RegisterMaker],
 ) -> Result<Vec<JoinPoint>, AllocError>
-    requires walkable { CanBeWalked slots.now }
+    requires walkable { CanBeWalked walk.now.slots.now }
 {
     let mut joins = Vec::new(alloc);
-    push_joins(alloc, policy, slots, states, ways, asked, &mut joins)?;
+    push_joins(alloc, walk, asked, &mut joins)?;
     for maker in makers {
         let operands = AskedRegisters {
             slot: maker.place.slot,
             registers: read_registers(maker.place.insn),
             makers: 2,
         };
-        push_joins(alloc, policy, slots, states, ways, operands, &mut joins)?;
+        push_joins(alloc, walk, operands, &mut joins)?;
     }
     Ok(joins)
 }
@@ -294,25 +271,20 @@ struct AskedRegisters {
 /// Adds the join points of the asked registers to the list, as long as there is room.
 fn push_joins(
     alloc: Global,
-    policy: &PolicySource,
-    slots: &[Option<Insn>],
-    states: &KnownStates,
-    ways: &Ways,
+    walk: &Walk<'_>,
     asked: AskedRegisters,
     joins: &mut Vec<JoinPoint>,
 ) -> Result<(), AllocError>
-    requires walkable { CanBeWalked slots.now }
+    requires walkable { CanBeWalked walk.now.slots.now }
 {
-    if asked.slot >= slots.len() {
+    if asked.slot >= walk.slots.len() {
         return Ok(());
     }
     for register in 0..REGISTERS as u8 {
         if asked.registers[usize::from(register)] && joins.len() < JOINS {
-            let made = find_makers(alloc, slots, register, asked.slot)?;
+            let made = find_makers(alloc, walk.slots, register, asked.slot)?;
             if made.len() >= asked.makers {
-                let join = find_join_point(
-                    alloc, policy, slots, states, ways, register, asked.slot,
-                )?;
+                let join = find_join_point(alloc, walk, register, asked.slot)?;
                 push_new(join, joins)?;
             }
         }

@@ -5,6 +5,7 @@ ghost use Rattle.bq_explain.specs.Makers.{CanBeWalked};
 use crate::after::{Sides, sides_of};
 use crate::makers::writes;
 use bq_insn::Insn;
+use bq_policy_file::PolicySource;
 use bq_verify::KnownStates;
 use bq_verify::graph_numbers::targets;
 use bq_verify::targets::{Targets, instruction};
@@ -15,6 +16,18 @@ use std::alloc::{AllocError, Global};
 pub(crate) struct Ways {
     next: Vec<Option<usize>>,
     jump: Vec<Option<usize>>,
+}
+
+/// A policy through which one walks back from a slot: its program, what is known there, and where runs may go.
+#[derive(Drop)]
+pub(crate) struct Walk<'a> {
+    pub policy: &'a PolicySource,
+    /// The slots of the policy's program.
+    pub slots: &'a [Option<Insn>],
+    /// What is known at each slot.
+    pub states: &'a KnownStates,
+    /// Where runs may go from each slot.
+    pub ways: &'a Ways,
 }
 
 /// Finds where runs may go from each slot before `slot`.
@@ -88,19 +101,18 @@ pub(crate) fn is_marked(list: &[bool], slot: usize) -> bool {
 /// Marks each slot from which a run may come to `slot` so that no later instruction on its way writes the register.
 pub(crate) fn find_reaching(
     alloc: Global,
-    slots: &[Option<Insn>],
-    ways: &Ways,
+    walk: &Walk<'_>,
     register: u8,
     slot: usize,
 ) -> Result<Vec<bool>, AllocError> {
-    let mut reaching = vec![in alloc; false; slots.len()]?;
-    let mut spared = vec![in alloc; false; slots.len()]?;
+    let mut reaching = vec![in alloc; false; walk.slots.len()]?;
+    let mut spared = vec![in alloc; false; walk.slots.len()]?;
     mark(spared.as_mut_slice(), Some(slot));
     for done in 0..slot {
         let here = slot - 1 - done;
-        if leads_to_marked(ways, spared.as_slice(), here) {
+        if leads_to_marked(walk.ways, spared.as_slice(), here) {
             mark(reaching.as_mut_slice(), Some(here));
-            if spares(slots, register, here) {
+            if spares(walk.slots, register, here) {
                 mark(spared.as_mut_slice(), Some(here));
             }
         }

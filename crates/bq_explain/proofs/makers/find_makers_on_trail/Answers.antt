@@ -21,7 +21,7 @@ begun slots slot asked old new none pushed maker there = by (pushed maker there)
 
 pub loop-at-init : goal.loop-at-init
 loop-at-init c =
-    begun c.args.slots.now c.args.slot c.args.asked.now c.new-trail.result.items c.push_makers.new.trail.items
+    begun c.args.walk.now.slots.now c.args.slot c.args.asked.now c.new-trail.result.items c.push_makers.new.trail.items
     c.new-trail.ensures.items c.in_ok-push_makers.ensures
 
 pub loop-at-preserved : goal.loop-at-preserved

@@ -28,7 +28,7 @@ loop-register-preserved c =
     elim c.if-asked-from.branch [
       | then-asked-from+in_ok-made+in_ok-reaching+in_ok-push_named w ↦
           let is_asked : slice_index_or c.args.asked.now c.loop-register.register false ≡ true = search rules in
-          more c.args.slots.now c.args.slot c.loop-register.register c.args.asked.now w.in_ok-made.made.items
+          more c.args.walk.now.slots.now c.args.slot c.loop-register.register c.args.asked.now w.in_ok-made.made.items
           c.args.trail.now.items c.loop-register.trail.items c.if-asked-from.trail.items is_asked w.in_ok-made.ensures
           (rw (w.trail-is, ← w.as_slice.ensures.value) w.in_ok-push_named.ensures) c.loop-register.invariant
       | else-asked-from w ↦ rw w.trail-is c.loop-register.invariant

@@ -7,4 +7,4 @@ use Rattle.bq_explain.proofs.makers.push_makers.Given as goal
 abbrev pub invariant-loop-register : goal.invariant-loop-register
 invariant-loop-register l =
     (maker : Maker) → Contains l.trail.items maker →
-    Contains l.initial.trail.items maker ⊎ MakesAsked l.slots l.slot l.asked maker
+    Contains l.initial.trail.items maker ⊎ MakesAsked l.walk.slots.now l.slot l.asked maker

@@ -24,7 +24,7 @@ longer slots later insn operands old new here reads_them pushed slot asked on we
 
 pub returns : goal.returns
 returns c =
-    let here : instruction_at c.args.slots.now c.args.maker.slot ≡ Some c.in-Some.insn = sym c.instruction.ensures ∙ c.in-Some.is in
+    let here : instruction_at c.args.walk.now.slots.now c.args.maker.slot ≡ Some c.in-Some.insn = sym c.instruction.ensures ∙ c.in-Some.is in
     on_ok_weaker c.push_makers.result
-    (longer c.args.slots.now c.args.maker c.in-Some.insn c.read_registers.result c.args.trail.now.items
+    (longer c.args.walk.now.slots.now c.args.maker c.in-Some.insn c.read_registers.result c.args.trail.now.items
     c.push_makers.new.trail.items here c.read_registers.ensures) c.push_makers.ensures

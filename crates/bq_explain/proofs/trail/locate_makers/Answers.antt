@@ -24,7 +24,7 @@ pub loop-maker-preserved : goal.loop-maker-preserved
 loop-maker-preserved c =
     elim c.match-locate_maker.branch [
       | in-Some+in_ok-push w ↦
-          one_more c.args.slots.now c.args.makers.now _ c.loop-maker.made.items c.match-locate_maker.made.items w.in-Some.one
+          one_more c.args.walk.now.slots.now c.args.makers.now _ c.loop-maker.made.items c.match-locate_maker.made.items w.in-Some.one
           (Contains-get_or c.args.makers.now c.loop-maker.maker-index _ c.loop-maker-test.true) w.in-Some.ensures
           (rw w.made-is w.in_ok-push.ensures.items) c.loop-maker.invariant
       | in_default w ↦ rw w.made-is c.loop-maker.invariant
