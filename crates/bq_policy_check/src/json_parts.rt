@@ -10,6 +10,7 @@ use bq_explain::{
     ExplainedRefusal, Finding, ProgramPoint, RegisterMaker, Summary, Verdict, advice_text,
     finding_text,
 };
+use bq_insn::REGISTERS;
 use bq_needs::known_text;
 use bq_policy_file::{PolicySource, instruction_text};
 use bq_states::abstract_state::{AbstractState, AbstractValue};
@@ -210,7 +211,7 @@ fn known_value(
     state: &AbstractState,
 ) -> Result<Value, AllocError> {
     let mut registers = Map::new(alloc);
-    for register in 0..11usize {
+    for register in 0..REGISTERS {
         if let Some(known) = state.registers[register] {
             let name = format!(in alloc; "r{register}")?;
             let text = known_text(alloc, shapes, &known)?;
