@@ -38,7 +38,7 @@ pub enum Lack {
     InNoMap,
 }
 
-/// Why what is known of its pointer does not show the access to be good; `None` if it does.
+/// Finds why what is known of its pointer does not show the access to be good; `None` if it does.
 pub(crate) fn lack_of(
     policy: &PolicySource,
     state: &AbstractState,
@@ -59,7 +59,7 @@ pub(crate) fn lack_of(
     }
 }
 
-/// Why a pointer into the context, which is only read, does not show the access to be good; `None` if it does.
+/// Finds why a pointer into the context, which is only read, does not show the access to be good; `None` if it does.
 #[tactic(auto, using(crate::proofs::AccessLemmas::shown_in_context))]
 fn context_lack(
     policy: &PolicySource,
@@ -82,7 +82,7 @@ fn context_lack(
     }
 }
 
-/// Why a pointer into the stack, of which only set bytes are read, does not show the access to be good; `None` if it does.
+/// Finds why a pointer into the stack, of which only set bytes are read, does not show the access to be good; `None` if it does.
 #[tactic(auto, using(crate::proofs::AccessLemmas::written_on_stack, crate::proofs::AccessLemmas::read_from_stack))]
 fn stack_lack(
     policy: &PolicySource,
@@ -107,7 +107,7 @@ fn stack_lack(
     }
 }
 
-/// Why a pointer into a value of that map does not show the access to be good; `None` if it does.
+/// Finds why a pointer into a value of that map does not show the access to be good; `None` if it does.
 #[tactic(auto, using(crate::proofs::AccessLemmas::shown_in_value))]
 fn value_lack(
     policy: &PolicySource,
@@ -162,7 +162,7 @@ fn touches_set(state: &AbstractState, access: MemoryAccess, offsets: Range) -> b
     true
 }
 
-/// The words at this distance from those of the range. None if one of them would be beyond the greatest word.
+/// Moves the range by this distance; None if one of its words would then be beyond the greatest word.
 fn moved(offsets: Range, off: i16) -> Option<Range>
     ensures range { MatchOption result (ReachesLast off offsets) (IsMoved off offsets) }
     ensures wraps { IfNone result (Wraps off offsets) }
@@ -210,7 +210,7 @@ fn across_text(
     format!(in alloc; "{place} -{below}..{above}")
 }
 
-/// What a pointer that may be followed counts from.
+/// Names what a pointer that may be followed counts from.
 fn place_text(alloc: Global, shapes: &[MapShape], kind: ValueKind) -> Result<String, AllocError>
     ensures { IfOk result (λ text. string_bytes text ≡ pointed_place_text shapes.now kind) }
 {
@@ -224,7 +224,7 @@ fn place_text(alloc: Global, shapes: &[MapShape], kind: ValueKind) -> Result<Str
     }
 }
 
-/// At what offsets the access begins, if its pointer may be followed and a range says it.
+/// Finds at what offsets the access begins; None if its pointer may not be followed or no range has them.
 fn begin_range(access: MemoryAccess, pointer: AbstractValue) -> Option<Range>
     ensures { BeginsIn access pointer result }
 {
@@ -271,7 +271,7 @@ fn is_followed(kind: ValueKind) -> bool
     )
 }
 
-/// Why an access is not good, in words.
+/// Says why an access is not good.
 pub(crate) fn lack_text(
     alloc: Global,
     policy: &PolicySource,

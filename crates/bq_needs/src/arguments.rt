@@ -36,7 +36,7 @@ pub enum Argument {
 impl Argument {
     ghost use Rattle.bq_needs.specs.Arguments.{argument_register};
 
-    /// Its register.
+    /// Returns its register.
     pub fn register(self) -> u8
         ensures { result ≡ argument_register self }
     {
@@ -49,7 +49,7 @@ impl Argument {
     }
 }
 
-/// The first argument of the helper that is not shown to be what it wants.
+/// Finds the first argument of the helper that is not shown to be what it wants.
 #[tactic(auto, using(crate::proofs::ArgumentLemmas::all_given))]
 pub(crate) fn bad_argument(
     policy: &PolicySource,
@@ -112,7 +112,7 @@ fn is_good(policy: &PolicySource, state: &AbstractState, argument: Argument) -> 
     }
 }
 
-/// What is wanted, in words.
+/// Says what is wanted.
 pub(crate) fn wanted_text(argument: Argument) -> &'static str
     ensures { result.now ≡ wanted_text argument }
 {
@@ -136,7 +136,7 @@ fn names_map(state: &AbstractState) -> bool
     }
 }
 
-/// The map that register 1 names.
+/// Finds the map that register 1 names.
 fn named_map(state: &AbstractState) -> Option<u8>
     ensures { MatchOption result (¬ ((m : ℕ) × CertaintyHoldsAt (Pointer (ValueKind.Map m) 0) state.now 1)) (λ m. CertaintyHoldsAt (Pointer (ValueKind.Map m) 0) state.now 1) }
 {

@@ -15,7 +15,7 @@ use std::alloc::{AllocError, Global};
 /// Words from here on are printed as numbers below zero.
 const NEGATIVE: u64 = 1 << 63;
 
-/// One number by itself, or both ends if they differ.
+/// Writes one number, or both ends if they differ.
 fn between(alloc: Global, first: u64, last: u64) -> Result<String, AllocError>
     ensures { IfOk result (λ text. string_bytes text ≡ between first last) }
 {
@@ -25,7 +25,7 @@ fn between(alloc: Global, first: u64, last: u64) -> Result<String, AllocError>
     format!(in alloc; "{first}..{last}")
 }
 
-/// The words of a range: one by itself, or both ends.
+/// Writes the words of a range: its one word, or both ends.
 pub fn range_text(alloc: Global, range: Range) -> Result<String, AllocError>
     ensures { IfOk result (λ text. string_bytes text ≡ range_text range) }
 {
@@ -47,7 +47,7 @@ pub fn known_text(
     Ok(text)
 }
 
-/// A word of a kind, by the range of its offset.
+/// Says what a word of the kind is, by the range of its offset.
 pub(crate) fn kind_text(
     alloc: Global,
     shapes: &[MapShape],
@@ -78,7 +78,7 @@ pub(crate) fn kind_text(
     }
 }
 
-/// A map by its number; if another map has its shape, that it may be that one.
+/// Names a map by its number; if another map has its shape, says that it may be that one.
 pub(crate) fn map_name(alloc: Global, shapes: &[MapShape], map: u8) -> Result<String, AllocError>
     ensures { IfOk result (λ text. string_bytes text ≡ map_name shapes.now map) }
 {
@@ -99,7 +99,7 @@ fn is_shared(shapes: &[MapShape], shape: Option<MapShape>) -> bool
     }
 }
 
-/// How many of the maps have that shape.
+/// Counts the maps that have that shape.
 fn count_of(shapes: &[MapShape], shape: MapShape) -> usize
     ensures { result ≡ count_by (same_shape shape) shapes.now }
 {
@@ -118,7 +118,7 @@ fn is_same(shape: MapShape, other: MapShape) -> bool
     shape.value_size == other.value_size && shape.entries == other.entries
 }
 
-/// A number; if nothing else is known of it, the text says so. A word of the upper half is below zero.
+/// Writes the range of a number; if nothing else is known of it, says so. A word of the upper half is below zero.
 fn number_text(alloc: Global, range: Range) -> Result<String, AllocError>
     ensures { IfOk result (λ text. string_bytes text ≡ number_text range) }
 {
@@ -131,7 +131,7 @@ fn number_text(alloc: Global, range: Range) -> Result<String, AllocError>
     minus_text(alloc, below(range.lo), below(range.hi))
 }
 
-/// Numbers below zero, by their distances from it, the furthest first; a distance of 0 is printed as 0.
+/// Writes numbers below zero by their distances from it, the furthest first; a distance of 0 is printed as 0.
 fn minus_text(alloc: Global, far: u64, near: u64) -> Result<String, AllocError>
     ensures { IfOk result (λ text. string_bytes text ≡ minus_text far near) }
 {
@@ -155,7 +155,7 @@ fn below_text(alloc: Global, far: u64, near: u64) -> Result<String, AllocError>
     format!(in alloc; " {numbers}")
 }
 
-/// A pointer by its base and how far above the base it is; offsets beyond 2^63 are distances below the base.
+/// Writes a pointer by its base and how far above the base it is; offsets beyond 2^63 are distances below the base.
 fn pointer_text(alloc: Global, base: &str, range: Range) -> Result<String, AllocError>
     ensures { IfOk result (λ text. string_bytes text ≡ base.now ++ offset_text range) }
 {
@@ -177,7 +177,7 @@ fn offset_text(alloc: Global, range: Range) -> Result<String, AllocError>
     below_text(alloc, below(range.lo), below(range.hi))
 }
 
-/// How far below its base a word is, if it is `offset` above the base by a sum that wraps.
+/// Returns how far below its base a word is that is `offset` above the base by a sum that wraps.
 fn below(offset: u64) -> u64
     requires { 0 < offset }
     ensures { result ≡ 2 ^ 64 - offset }
@@ -185,7 +185,7 @@ fn below(offset: u64) -> u64
     u64::MAX - offset + 1
 }
 
-/// A pointer into the stack, by its distance from the end, at which r10 points.
+/// Writes a pointer into the stack by its distance from the end, at which r10 points.
 fn stack_text(alloc: Global, range: Range) -> Result<String, AllocError>
     ensures { IfOk result (λ text. string_bytes text ≡ stack_pointer_text range) }
 {

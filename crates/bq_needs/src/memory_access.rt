@@ -40,7 +40,7 @@ pub fn reads(insn: Insn, register: u8) -> bool
     }
 }
 
-/// The registers that the instruction reads as operands.
+/// Lists the registers that the instruction reads as operands.
 pub fn read_registers(insn: Insn) -> Registers
     ensures { (r : ℕ) → slice_index_or result r false ≡ true → reads insn r ≡ true }
 {
@@ -62,7 +62,7 @@ pub(crate) fn works_on(insn: Insn, register: u8) -> bool
     }
 }
 
-/// All operations but a move read what they change.
+/// Whether the operation reads the register that it changes: all but a move do.
 fn reads_left(op: Operation) -> bool
     ensures { result ≡ reads_left op }
 {
@@ -82,7 +82,7 @@ fn is_register(src: Source, register: u8) -> bool
     }
 }
 
-/// The access of the instruction, if it is a load or a store.
+/// Finds the access of the instruction; None if it is no load and no store.
 pub(crate) fn access_of(insn: Insn) -> Option<MemoryAccess>
     ensures is { result ≡ access_of insn }
     ensures few { IfSome result (λ access. access.bytes ≤ 8) }
@@ -95,7 +95,7 @@ pub(crate) fn access_of(insn: Insn) -> Option<MemoryAccess>
     }
 }
 
-/// An access of that size.
+/// Makes an access of that size.
 fn sized(writes: bool, size: Size, register: u8, off: i16) -> MemoryAccess
     ensures is { result ≡ record { writes = writes; bytes = byte_count size; register = register; off = off } }
     ensures few { result.bytes ≤ 8 }

@@ -50,7 +50,7 @@ pub struct Pointer {
     pub known: AbstractValue,
 }
 
-/// The need that the abstract state does not give, by the cause.
+/// Finds the need that the abstract state does not meet, by the cause.
 pub fn need_of(policy: &PolicySource, state: &AbstractState, insn: Insn, cause: Cause) -> Need
     ensures { IsNeed policy.now state.now insn cause result }
 {
@@ -60,7 +60,7 @@ pub fn need_of(policy: &PolicySource, state: &AbstractState, insn: Insn, cause: 
     }
 }
 
-/// The need that the abstract state does not give, by the cause; None if it gives what the cause says.
+/// Finds the need that the abstract state does not meet, by the cause; None if it gives what the cause says.
 fn lacking(policy: &PolicySource, state: &AbstractState, insn: Insn, cause: Cause) -> Option<Need>
     ensures { MatchOption result (IsMet policy.now state.now insn cause) (Lacking policy.now state.now insn cause) }
 {
@@ -74,7 +74,7 @@ fn lacking(policy: &PolicySource, state: &AbstractState, insn: Insn, cause: Caus
     }
 }
 
-/// The registers that the instruction reads and of which nothing is known, if there are any.
+/// Finds the registers that the instruction reads and of which nothing is known; None if there are none.
 fn unknown_need(state: &AbstractState, insn: Insn) -> Option<Need>
     ensures { MatchOption result (AreReadsKnown state.now insn) (λ need. IsUnknownNeed state.now insn need × ¬ (AreReadsKnown state.now insn)) }
 {
@@ -86,7 +86,7 @@ fn unknown_need(state: &AbstractState, insn: Insn) -> Option<Need>
     }
 }
 
-/// Each register that the instruction reads and of which nothing is known.
+/// Lists the registers that the instruction reads and of which nothing is known.
 fn unknown_registers(state: &AbstractState, insn: Insn) -> Registers
     ensures { AreUnknown state.now insn result }
 {
@@ -116,7 +116,7 @@ fn has_one(registers: &Registers) -> bool
     false
 }
 
-/// The access of a load or a store, and why it is not shown to be good, if it is not.
+/// Finds the access of a load or a store, and why it is not shown to be good; None if it is, or if there is no access.
 fn access_need(policy: &PolicySource, state: &AbstractState, insn: Insn) -> Option<Need>
     ensures { MatchOption result (IsGoodAccess policy.now state.now insn) (Lacking policy.now state.now insn (Cause.State Obligation.Access)) }
 {
@@ -136,7 +136,7 @@ fn access_need(policy: &PolicySource, state: &AbstractState, insn: Insn) -> Opti
     })
 }
 
-/// A pointer that the instruction works on, if it works on one.
+/// Finds a pointer that the instruction works on; None if it works on none.
 fn pointer_need(state: &AbstractState, insn: Insn) -> Option<Need>
     ensures { MatchOption result (AreNumbers state.now insn) (λ need. IsPointerNeed state.now insn need × ¬ (AreNumbers state.now insn)) }
 {
@@ -146,7 +146,7 @@ fn pointer_need(state: &AbstractState, insn: Insn) -> Option<Need>
     Some(Need::Number(pointer))
 }
 
-/// The first of the registers that the instruction works on which is known to be no number.
+/// Finds the first of the registers that the instruction works on which is known to be no number.
 fn pointer_worked_on(state: &AbstractState, insn: Insn) -> Option<Pointer>
     ensures { MatchOption result (AreNumbers state.now insn) (λ pointer. IsFirstPointer state.now insn pointer.register pointer.known) }
 {
@@ -158,7 +158,7 @@ fn pointer_worked_on(state: &AbstractState, insn: Insn) -> Option<Pointer>
     None
 }
 
-/// The register, if the instruction works on it and it is known to be no number.
+/// Returns the register and what is known of it, if the instruction works on it and it is known to be no number.
 fn as_pointer(state: &AbstractState, insn: Insn, register: u8) -> Option<Pointer>
     requires { register < REGISTERS }
     ensures register { IfSome result (λ pointer. pointer.register ≡ register) }
@@ -184,7 +184,7 @@ fn is_number(kind: ValueKind) -> bool
     matches!(kind, ValueKind::Number)
 }
 
-/// The map that does not exist, or the argument of a helper that is not shown to be what it wants.
+/// Finds the map that does not exist, or the argument of a helper that is not shown to be what it wants.
 fn argument_need(policy: &PolicySource, state: &AbstractState, insn: Insn) -> Option<Need>
     ensures { MatchOption result (AreGoodArguments policy.now state.now insn) (Lacking policy.now state.now insn (Cause.State Obligation.Argument)) }
 {
@@ -195,7 +195,7 @@ fn argument_need(policy: &PolicySource, state: &AbstractState, insn: Insn) -> Op
     }
 }
 
-/// The number, if it is no map's.
+/// Returns the number as a need, if it is no map's.
 fn map_need(policy: &PolicySource, index: i32) -> Option<Need>
     ensures { MatchOption result (IsMapNumber policy.now index) (λ need. (need ≡ Need.Map index) × ¬ (IsMapNumber policy.now index)) }
 {
@@ -213,7 +213,7 @@ fn is_map(policy: &PolicySource, index: i32) -> bool
     index >= 0 && (index as usize) < policy.form.shapes.len()
 }
 
-/// The argument of the helper that is not shown to be what it wants, if there is one.
+/// Finds the argument of the helper that is not shown to be what it wants; None if there is none.
 fn call_need(policy: &PolicySource, state: &AbstractState, helper: i32) -> Option<Need>
     ensures { MatchOption result (GivesHelper policy.now state.now helper) (IsHelperNeed policy.now state.now helper) }
 {
@@ -223,7 +223,7 @@ fn call_need(policy: &PolicySource, state: &AbstractState, helper: i32) -> Optio
     Some(Need::Argument { helper, argument })
 }
 
-/// What the answer is, if it is not shown to be a number.
+/// Finds the need that the answer is a number; None if it is shown to be one.
 fn answer_need(state: &AbstractState) -> Option<Need>
     ensures { MatchOption result (CertaintyHoldsAt Scalar state.now 0) (λ need. (need ≡ Need.Answer (known_in state.now 0)) × ¬ (CertaintyHoldsAt Scalar state.now 0)) }
 {

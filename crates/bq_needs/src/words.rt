@@ -16,7 +16,7 @@ use bq_states::abstract_state::{AbstractState, AbstractValue, ValueKind};
 use bq_states::registers::known;
 use std::alloc::{AllocError, Global};
 
-/// The need of the instruction, in words.
+/// Writes the need of the instruction in words.
 pub fn need_text(
     alloc: Global,
     policy: &PolicySource,
@@ -49,16 +49,16 @@ pub fn need_text(
     }
 }
 
-/// The registers that are read and of which nothing is known.
+/// Names the registers that are read and of which nothing is known.
 fn unknown_text(alloc: Global, registers: &Registers) -> Result<String, AllocError>
     ensures { IfOk result (λ text. string_bytes text ≡ unknown_reads_text registers.now) }
 {
-    let names = names(alloc, registers)?;
+    let names = names_text(alloc, registers)?;
     format!(in alloc; "reads{names}, of which nothing is known here")
 }
 
-/// The names of the registers.
-fn names(alloc: Global, registers: &Registers) -> Result<String, AllocError>
+/// Writes the names of the registers.
+fn names_text(alloc: Global, registers: &Registers) -> Result<String, AllocError>
     ensures { IfOk result (λ text. string_bytes text ≡ names_below REGISTERS registers.now) }
 {
     let mut text = String::new(alloc);
@@ -70,7 +70,7 @@ fn names(alloc: Global, registers: &Registers) -> Result<String, AllocError>
     Ok(text)
 }
 
-/// The name of a register, if it is named; `and` comes before it, unless it is the first.
+/// Writes the name of a register, if it is named; `and` comes before it, unless it is the first.
 fn name_text(
     alloc: Global,
     register: usize,
@@ -86,13 +86,13 @@ fn name_text(
     }
 }
 
-/// An access by a register of which nothing is known.
+/// Writes an access by a register of which nothing is known.
 fn address_text(alloc: Global, access: MemoryAccess) -> Result<String, AllocError>
     ensures { IfOk result (λ text. string_bytes text ≡ address_text access) }
 {
-    let verb = verb(access.writes);
+    let verb = verb_of(access.writes);
     let bytes = access.bytes;
-    let noun = noun(bytes);
+    let noun = noun_of(bytes);
     let register = access.register;
     format!(in alloc; "{verb} {bytes} {noun} at r{register}, of which nothing is known here")
 }
@@ -106,28 +106,28 @@ fn access_text(
 ) -> Result<String, AllocError>
     ensures { IfOk result (λ text. DescribesAccess shapes.now access pointer (string_bytes text)) }
 {
-    let verb = verb(access.writes);
+    let verb = verb_of(access.writes);
     let bytes = access.bytes;
-    let noun = noun(bytes);
+    let noun = noun_of(bytes);
     let begin = begin_text(alloc, shapes, access, pointer)?;
     format!(in alloc; "{verb} {bytes} {noun} at {begin}")
 }
 
-/// What an access does with the bytes.
-fn verb(writes: bool) -> &'static str
+/// Chooses the verb of an access: `writes` or `reads`.
+fn verb_of(writes: bool) -> &'static str
     ensures { result.now ≡ verb writes }
 {
     if writes { "writes" } else { "reads" }
 }
 
-/// One byte, or several.
-fn noun(bytes: usize) -> &'static str
+/// Chooses the noun after a number of bytes: `byte` after 1, else `bytes`.
+fn noun_of(bytes: usize) -> &'static str
     ensures { result.now ≡ noun bytes }
 {
     if bytes == 1 { "byte" } else { "bytes" }
 }
 
-/// A pointer that is worked on, and what may be done with it.
+/// Writes a pointer that is worked on, and what may be done with it.
 fn pointer_text(
     alloc: Global,
     shapes: &[MapShape],
@@ -189,7 +189,7 @@ pub fn moves(insn: Insn, register: u8) -> bool
     }
 }
 
-/// What may be done with a pointer of the kind.
+/// Says what may be done with a pointer of the kind.
 fn kind_rule(kind: ValueKind) -> &'static str
     ensures { result.now ≡ kind_rule kind }
 {
@@ -205,7 +205,7 @@ fn kind_rule(kind: ValueKind) -> &'static str
     }
 }
 
-/// A number that is no map's.
+/// Writes a number that is no map's, and which numbers maps have.
 fn map_text(alloc: Global, index: i32, count: usize) -> Result<String, AllocError>
     ensures { IfOk result (λ text. string_bytes text ≡ map_text index count) }
 {
@@ -227,7 +227,7 @@ fn maps_text(alloc: Global, count: usize) -> Result<String, AllocError>
     format!(in alloc; "{count} maps, numbers 0 to {last}")
 }
 
-/// What a helper needs an argument to be, and what is known of it.
+/// Says what a helper needs an argument to be, and what is known of it.
 fn argument_text(
     alloc: Global,
     shapes: &[MapShape],
@@ -242,7 +242,7 @@ fn argument_text(
     format!(in alloc; "calls helper {helper}, which wants {wanted}; here {here}")
 }
 
-/// What is known of the register.
+/// Says what is known of the register.
 fn here_text(
     alloc: Global,
     shapes: &[MapShape],
@@ -260,7 +260,7 @@ fn here_text(
     }
 }
 
-/// What is known of the answer, which is not shown to be a number.
+/// Says what is known of the answer, which is not shown to be a number.
 fn answer_text(
     alloc: Global,
     shapes: &[MapShape],
