@@ -55,7 +55,7 @@ pub(crate) fn access_advice(
     }
 }
 
-/// What helps if the pointer is a number. If the number is 0 and was the answer of a look-up, the access is on the wrong
+/// Chooses what helps if the pointer is a number. If the number is 0 and was the answer of a look-up, the access is on the wrong
 /// side of the test.
 fn number_advice(register: u8, pointer: AbstractValue, trail: &Trail) -> Advice
     ensures { NamesRegister register result }
@@ -79,7 +79,7 @@ fn is_answer(known: Option<AbstractValue>) -> bool {
     }
 }
 
-/// What helps if the register is the answer of a look-up: a test, unless a number was added to the answer.
+/// Chooses what helps if the register is the answer of a look-up: a test, unless a number was added to the answer.
 pub(crate) fn test_advice(register: u8, answer: AbstractValue) -> Advice
     ensures { NamesRegister register result }
 {
@@ -121,7 +121,7 @@ fn is_within(access: MemoryAccess, pointer: AbstractValue, bound: u64) -> bool {
     lo <= hi && past <= bound
 }
 
-/// Where in a value of this many bytes an access may begin.
+/// Finds where in a value of this many bytes an access may begin.
 fn room_of(access: MemoryAccess, pointer: AbstractValue, size: u16) -> AccessRange {
     AccessRange {
         is_range: is_range(pointer),

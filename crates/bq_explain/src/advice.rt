@@ -103,7 +103,7 @@ pub struct Missing {
     pub mixed: Registers,
 }
 
-/// What helps if something is wrong with the control graph of a program of this many slots.
+/// Chooses what helps against a fault of the control graph of a program of `count` slots.
 pub(crate) fn graph_advice(fault: GraphFault, count: usize) -> Advice {
     match fault {
         GraphFault::JumpsBack(_) => Advice::JumpForward,
@@ -117,7 +117,7 @@ pub(crate) fn graph_advice(fault: GraphFault, count: usize) -> Advice {
     }
 }
 
-/// What helps if something is not shown of the states.
+/// Chooses what helps if something is not shown of the states.
 pub(crate) fn state_advice(
     policy: &PolicySource,
     insn: Insn,
@@ -155,7 +155,7 @@ fn need_advice(
     }
 }
 
-/// What helps if the answer is a pointer: an answer of a look-up that was moved before its test can't be followed.
+/// Chooses what helps if the answer is a pointer. The answer of a look-up that was moved before its test can't be followed.
 fn answer_advice(answer: AbstractValue) -> Advice {
     match answer.kind {
         ValueKind::EntryOrNull(_) if !is_answer_itself(answer) => Advice::Answer(ValueKind::Number),
@@ -163,7 +163,7 @@ fn answer_advice(answer: AbstractValue) -> Advice {
     }
 }
 
-/// The set of that register alone.
+/// Returns the set of that register alone.
 pub(crate) fn only(register: u8) -> Registers
     ensures { (r : ℕ) → slice_index_or result r false ≡ true → (register == r) ≡ true }
 {
@@ -174,8 +174,8 @@ pub(crate) fn only(register: u8) -> Registers
     registers
 }
 
-/// What helps if nothing is known of these registers: a call left one unset, no instruction sets it on some way, or it
-/// holds words of two kinds.
+/// Chooses what helps if nothing is known of these registers: of each, whether a call left it unset, no instruction sets it on some
+/// way, or it holds words of two kinds.
 fn unknown_advice(registers: &Registers, trail: &Trail) -> Advice
     ensures { (missing : MissingValue) × (result ≡ Know missing) }
 {
@@ -198,7 +198,7 @@ fn unknown_advice(registers: &Registers, trail: &Trail) -> Advice
     Advice::Know(missing)
 }
 
-/// What helps if a map does not exist.
+/// Chooses what helps if a map does not exist.
 fn map_advice(policy: &PolicySource, index: i32) -> Advice {
     match usize::try_from(index) {
         Err(_) => Advice::CountMaps,
@@ -208,7 +208,7 @@ fn map_advice(policy: &PolicySource, index: i32) -> Advice {
     }
 }
 
-/// What helps if an argument of a helper is not what the helper wants; a register of two kinds is reported as such.
+/// Chooses what helps if an argument of a helper is not what the helper wants; a register of two kinds is reported as such.
 fn argument_advice(
     policy: &PolicySource,
     state: &AbstractState,
@@ -230,7 +230,7 @@ fn argument_advice(
     }
 }
 
-/// What helps if the value of an update is not shown to be good: as many bytes as a value of the map in r1 has.
+/// Chooses what helps if the value of an update is not shown to be good: as many bytes as a value of the map in r1 has.
 fn value_advice(policy: &PolicySource, state: &AbstractState) -> Advice
     ensures { AdvisesOn Argument.Value result }
 {
@@ -246,7 +246,7 @@ fn value_advice(policy: &PolicySource, state: &AbstractState) -> Advice
     }
 }
 
-/// What helps if the instruction works on a pointer.
+/// Chooses what helps if the instruction works on a pointer.
 fn pointer_advice(insn: Insn, pointer: Pointer, state: &AbstractState) -> Advice
     ensures { NamesRegister pointer.register result }
 {
@@ -264,7 +264,7 @@ fn pointer_advice(insn: Insn, pointer: Pointer, state: &AbstractState) -> Advice
     }
 }
 
-/// What helps if the instruction compares a pointer: only the answer of a look-up is compared, unmoved, with 0.
+/// Chooses what helps if the instruction compares a pointer. A policy may compare only the answer of a look-up, unmoved, with 0.
 fn comparison_advice(pointer: Pointer) -> Advice
     ensures { NamesRegister pointer.register result }
 {
@@ -280,7 +280,7 @@ fn comparison_advice(pointer: Pointer) -> Advice
     }
 }
 
-/// What helps if the instruction calculates with a pointer.
+/// Chooses what helps if the instruction calculates with a pointer.
 fn arithmetic_advice(insn: Insn, pointer: Pointer, state: &AbstractState) -> Advice
     ensures { NamesRegister pointer.register result }
 {

@@ -11,7 +11,7 @@ use bq_policy_file::PolicySource;
 use bq_states::abstract_state::ValueKind;
 use std::alloc::{AllocError, Global};
 
-/// The advice on the policy in words.
+/// Writes the advice on the policy in words.
 pub fn advice_text(
     alloc: Global,
     policy: &PolicySource,
@@ -224,7 +224,7 @@ fn lack_text(alloc: Global, missing: &Missing, register: usize) -> Result<String
     Ok(String::new(alloc))
 }
 
-/// The maps of the policy, and as many of 8 bytes behind them that there are this many, as `--maps` takes them.
+/// Lists the maps of the policy as `--maps` takes them, and behind them maps of 8 bytes, until there are `count`.
 fn maps_up_to(alloc: Global, policy: &PolicySource, count: usize) -> Result<String, AllocError> {
     let mut text = String::new(alloc);
     if !policy.form.shapes.is_empty() {

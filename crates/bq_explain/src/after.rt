@@ -37,7 +37,8 @@ pub(crate) fn known_after(
     None
 }
 
-/// Makes the state the one after the step from the instruction to the next one or over its jump; false if no run takes the step.
+/// Changes the state before the instruction to the one after it, on the step to the next instruction or over its jump; returns
+/// false if no run takes the step.
 fn follow_step(
     state: &mut AbstractState,
     shapes: &[MapShape],
@@ -118,7 +119,7 @@ fn test_of(insn: Insn) -> Option<BranchTest> {
     }
 }
 
-/// Makes the state the one after the test, on that side; false if no run leaves the test there.
+/// Changes the state before the test to the one after it, on that side; returns false if no run leaves the test there.
 fn follow_side(state: &mut AbstractState, test: BranchTest, is_taken: bool) -> bool {
     if test.dst >= FRAME_REGISTER {
         return false;
@@ -142,7 +143,7 @@ fn follow_side(state: &mut AbstractState, test: BranchTest, is_taken: bool) -> b
     true
 }
 
-/// Makes the state the one after an instruction that only the next one can follow; false if no run goes past the instruction.
+/// Changes the state before an instruction that only the next one can follow to the one after it; returns false if no run goes on.
 fn follow_next(state: &mut AbstractState, shapes: &[MapShape], context: usize, insn: Insn) -> bool
     requires context { context < 2 ^ 16 }
     requires few { length shapes.now ≤ MAPS }

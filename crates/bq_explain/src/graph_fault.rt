@@ -31,7 +31,7 @@ pub enum GraphFault {
     Calls,
 }
 
-/// The fault of that cause, of an instruction in a program of this many slots.
+/// Names the fault that an instruction has by that cause, in a program of `count` slots.
 pub(crate) fn graph_fault(count: usize, slot: usize, insn: Insn, cause: GraphCause) -> GraphFault
     ensures { graph_cause_of result ≡ cause }
 {
@@ -61,7 +61,7 @@ fn jump_fault(count: usize, slot: usize, distance: i64) -> GraphFault
     GraphFault::JumpsInside(to)
 }
 
-/// The helper that the instruction calls.
+/// Returns the number of the helper that the instruction calls; 0 if it calls none.
 fn called_helper(insn: Insn) -> i32 {
     match insn {
         Insn::Call { helper } => helper,
@@ -92,7 +92,7 @@ fn is_between(letter: char) -> bool {
     letter == ' ' || letter == '\t' || letter == ','
 }
 
-/// Says the fault of the policy in words. A jump that names a label is reported by the label.
+/// Writes the fault of the policy in words. A jump that names a label is reported by the label.
 pub(crate) fn graph_text(
     alloc: Global,
     policy: &PolicySource,

@@ -36,7 +36,7 @@ pub struct ExceededLimit {
 impl Limits {
     ghost use Rattle.bq_explain.specs.Verdicts.{helpers_allowed};
 
-    /// No limits.
+    /// Returns limits that allow everything.
     pub fn none() -> Limits
         ensures steps { result.steps ≡ None }
         ensures helpers { result.helpers ≡ None }
@@ -65,7 +65,7 @@ impl Limits {
         }
     }
 
-    /// The first limit of maps, their bytes and counters that the policy is beyond.
+    /// Finds the first limit that the policy exceeds, of those on maps, their bytes and counters.
     pub(crate) fn exceeded(&self, policy: &PolicySource) -> Option<ExceededLimit>
         ensures { MatchOption result (KeepsMeasures policy.now self.now) (IsFirstExceeded policy.now self.now) }
     {
@@ -78,7 +78,7 @@ impl Limits {
         self.beyond(policy, Measure::Counters)
     }
 
-    /// The limit of that measure, if the policy exceeds it.
+    /// Finds the limit of that measure; None if the policy does not exceed it.
     fn beyond(&self, policy: &PolicySource, measure: Measure) -> Option<ExceededLimit>
         ensures over { MatchOption result (IsWithinLimit (measure_of policy.now measure) (most_of self.now measure)) (IsExceeded policy.now self.now) }
         ensures measure { IfSome result (λ over. over.measure ≡ measure) }
@@ -95,7 +95,7 @@ impl Limits {
         })
     }
 
-    /// The most that is allowed of that measure.
+    /// Returns the most that is allowed of that measure; None if there is no limit.
     fn most(&self, measure: Measure) -> Option<u32>
         ensures { result ≡ most_of self.now measure }
     {
@@ -106,7 +106,7 @@ impl Limits {
         }
     }
 
-    /// The first helper that is called and may not be called.
+    /// Finds the first helper that is called and may not be called.
     pub(crate) fn forbidden(&self, insns: &[Insn]) -> Option<i32>
         ensures { MatchOption result (All (CallsNoOther (helpers_allowed self.now)) insns.now) (IsCalledAgainst (helpers_allowed self.now) insns.now) }
     {
@@ -117,7 +117,7 @@ impl Limits {
     }
 }
 
-/// The first helper that is called and is not one of these.
+/// Finds the first helper that is called and is not one of these.
 fn called_against(helpers: &[i32], insns: &[Insn]) -> Option<i32>
     ensures { MatchOption result (All (CallsNoOther (Some helpers.now)) insns.now) (IsCalledAgainst (Some helpers.now) insns.now) }
 {
@@ -129,7 +129,7 @@ fn called_against(helpers: &[i32], insns: &[Insn]) -> Option<i32>
     None
 }
 
-/// The helper that the instruction calls, if it is not one of these.
+/// Returns the helper that the instruction calls; None if it is one of these, or the instruction calls none.
 fn called_beside(helpers: &[i32], insn: Insn) -> Option<i32>
     ensures { MatchOption result (CallsNoOther (Some helpers.now) insn) (IsBeside helpers.now insn) }
 {

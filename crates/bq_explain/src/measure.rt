@@ -21,7 +21,7 @@ pub enum Measure {
 }
 
 impl Measure {
-    /// How much of the measure the policy uses.
+    /// Returns how much of the measure the policy uses.
     pub fn of(self, policy: &PolicySource) -> u64
         ensures { result ≡ measure_of policy.now self }
     {
@@ -32,7 +32,7 @@ impl Measure {
         }
     }
 
-    /// The name of the measure in answers and options.
+    /// Returns the name of the measure in answers and options.
     pub fn word(self) -> &'static str
         ensures { result.now ≡ measure_word self }
     {
@@ -55,7 +55,7 @@ impl Measure {
     }
 }
 
-/// The bytes of the values of these maps.
+/// Sums the bytes of the values of these maps.
 fn value_bytes(shapes: &[MapShape]) -> u64
     requires { length shapes.now ≤ MAPS }
     ensures { result ≡ sum_by bytes_in_map shapes.now }
@@ -67,7 +67,7 @@ fn value_bytes(shapes: &[MapShape]) -> u64
     sum
 }
 
-/// The bytes of the values of a map.
+/// Returns how many bytes the values of a map have.
 #[tactic(auto, using(crate::proofs::MeasureLemmas::few_bytes))]
 fn map_bytes(shape: MapShape) -> u64
     ensures value { result ≡ bytes_in_map shape }
@@ -76,7 +76,7 @@ fn map_bytes(shape: MapShape) -> u64
     u64::from(shape.value_size) * u64::from(shape.entries)
 }
 
-/// How many of the instructions call a counter.
+/// Counts the instructions that call a counter.
 pub(crate) fn counter_calls(insns: &[Insn]) -> usize
     ensures { result ≡ count_by asks_counter insns.now }
 {

@@ -20,7 +20,7 @@ pub struct ProgramPoint {
     pub insn: Insn,
 }
 
-/// The place of the instruction that begins at the slot, if one does.
+/// Finds the place of the instruction that begins at the slot; None if no instruction begins there.
 pub(crate) fn place_at(
     policy: &PolicySource,
     slots: &[Option<Insn>],
@@ -39,13 +39,13 @@ pub(crate) fn place_at(
     Some(ProgramPoint { line, slot, insn })
 }
 
-/// The line of the text that has the instruction at the slot.
+/// Finds the line of the text that has the instruction at the slot; None if the policy came as no text.
 pub(crate) fn line_at(policy: &PolicySource, slot: usize) -> Option<usize> {
     let index = index_at(policy.insns.as_slice(), slot)?;
     policy.lines.as_slice().get(index).copied()
 }
 
-/// The first call of the helper.
+/// Finds the first call of the helper.
 pub(crate) fn call_of(policy: &PolicySource, helper: i32) -> Option<ProgramPoint> {
     let mut slot: usize = 0;
     for insn in policy.insns.as_slice() {
@@ -81,7 +81,7 @@ pub(crate) fn place_text(alloc: Global, place: &ProgramPoint) -> Result<String, 
     }
 }
 
-/// The place of an instruction, and the instruction as a listing has it, after the file's name if there is one.
+/// Writes the place of an instruction, and the instruction as a listing has it, after the file's name if there is one.
 pub(crate) fn instruction_line(
     alloc: Global,
     name: Option<&str>,
@@ -97,7 +97,7 @@ pub(crate) fn instruction_line(
     }
 }
 
-/// The index of the instruction that begins at the slot.
+/// Finds the index of the instruction that begins at the slot; None if no instruction begins there.
 pub fn index_at(insns: &[Insn], slot: usize) -> Option<usize>
     ensures { IfSome result (λ index. (insn : InsnValue) → slice_get insns.now index ≡ Some insn → instruction_at (spread insns.now) slot ≡ Some insn) }
 {

@@ -47,7 +47,7 @@ pub enum Finding {
     Unknown,
 }
 
-/// Why the verifier refuses the policy at that slot for that cause.
+/// Explains why the verifier refuses the policy at that slot for that cause.
 pub(crate) fn refusal_of(
     alloc: Global,
     policy: &PolicySource,
@@ -68,7 +68,7 @@ pub(crate) fn refusal_of(
     }
 }
 
-/// Why the verifier refuses the policy at that place for a fault of the control graph.
+/// Explains a refusal at that place for a fault of the control graph.
 fn graph_refusal(
     alloc: Global,
     file: &[u8],
@@ -94,7 +94,7 @@ fn graph_refusal(
     })
 }
 
-/// The label that a jump at fault names.
+/// Copies the label that a jump at fault names; None if the instruction has another fault or names no label.
 fn label_of(
     alloc: Global,
     file: &[u8],
@@ -107,7 +107,7 @@ fn label_of(
     }
 }
 
-/// Why the verifier refuses the policy at that place for what is not shown of the states.
+/// Explains a refusal at that place for what is not shown of the states.
 fn state_refusal(
     alloc: Global,
     policy: &PolicySource,
@@ -171,7 +171,7 @@ fn asked_in(finding: Finding) -> Registers
     }
 }
 
-/// The registers of which the need speaks.
+/// Lists the registers of which the need speaks.
 fn asked_by(need: Need) -> Registers
     ensures { (r : ℕ) → slice_index_or result r false ≡ true → speaks_of need r ≡ true }
 {

@@ -16,8 +16,8 @@ use std::alloc::{AllocError, Global};
 /// The bytes of the stack.
 const STACK: usize = STACK_SIZE as usize;
 
-/// One line with what each register is known to be and the stack's written bytes, and a line for each word that is kept there.
-/// It holds of every state of a program of such maps that the abstract state contains.
+/// Writes one line with what each register is known to be and with the stack's written bytes, and a line for each word that is kept
+/// on the stack. The lines hold of every state of a program of such maps that the abstract state contains.
 #[tactic(auto, using(crate::proofs::StateTextLemmas::describes_state))]
 pub(crate) fn state_text(
     alloc: Global,
@@ -43,7 +43,7 @@ fn lines_of(alloc: Global, shapes: &[MapShape], state: &AbstractState) -> Result
     format!(in alloc; " {registers}{unknown}{stack}{kept}")
 }
 
-/// The registers of which something is known.
+/// Writes each register of which something is known, and what.
 fn registers_text(
     alloc: Global,
     shapes: &[MapShape],
@@ -59,7 +59,7 @@ fn registers_text(
     Ok(text)
 }
 
-/// A register, if something is known of it.
+/// Writes a register and what is known of it; empty if nothing is.
 fn register_text(
     alloc: Global,
     shapes: &[MapShape],
@@ -89,7 +89,7 @@ fn unknown_text(alloc: Global, state: &AbstractState) -> Result<String, AllocErr
     format!(in alloc; "{names} unknown  ")
 }
 
-/// The registers of which nothing is known, by their names.
+/// Writes the names of the registers of which nothing is known.
 fn unknown_names(alloc: Global, state: &AbstractState) -> Result<String, AllocError>
     ensures { IfOk result (λ text. string_bytes text ≡ unknown_below REGISTERS state.now.registers) }
 {
@@ -101,7 +101,7 @@ fn unknown_names(alloc: Global, state: &AbstractState) -> Result<String, AllocEr
     Ok(text)
 }
 
-/// The name of a register, if nothing is known of it.
+/// Writes the name of a register of which nothing is known; empty if something is.
 fn unknown_name(
     alloc: Global,
     number: usize,
@@ -115,7 +115,7 @@ fn unknown_name(
     }
 }
 
-/// The bytes of the stack that are set.
+/// Writes which bytes of the stack are set.
 #[tactic(auto, using(crate::proofs::RunLemmas::none_written, crate::proofs::RunLemmas::some_written))]
 fn stack_line(alloc: Global, state: &AbstractState) -> Result<String, AllocError>
     ensures { IfOk result (λ text. IsStackText state.now.set (string_bytes text)) }
@@ -127,7 +127,7 @@ fn stack_line(alloc: Global, state: &AbstractState) -> Result<String, AllocError
     format!(in alloc; " stack:{runs} written\n")
 }
 
-/// Each run of bytes that are set, by their distance from the stack's end.
+/// Writes each run of bytes that are set, by their distance from the stack's end.
 #[tactic(auto, using(crate::proofs::RunLemmas::none_yet, crate::proofs::RunLemmas::all_described, crate::proofs::RunLemmas::byte_in_last_run, crate::proofs::RunLemmas::byte_not_set, crate::proofs::RunLemmas::with_run))]
 fn runs_text(alloc: Global, state: &AbstractState) -> Result<String, AllocError>
     ensures { IfOk result (λ text. AreByteRuns state.now.set stack_size (string_bytes text)) }
@@ -148,7 +148,7 @@ fn runs_text(alloc: Global, state: &AbstractState) -> Result<String, AllocError>
     Ok(text)
 }
 
-/// The byte past the last of the run that the byte begins.
+/// Finds the byte past the run of set bytes that begins at `first`.
 fn run_end(set: &[bool; STACK], first: usize) -> usize
     requires inside { first < stack_size }
     requires begun { slice_index_or set.now first false ≡ true }
@@ -165,7 +165,7 @@ fn run_end(set: &[bool; STACK], first: usize) -> usize
     STACK
 }
 
-/// Bytes of the stack, from the first up to the one past the last.
+/// Writes a run of bytes of the stack, from `first` up to the byte before `past`.
 fn run_text(alloc: Global, first: usize, past: usize) -> Result<String, AllocError>
     requires some { first < past }
     requires inside { past ≤ stack_size }
@@ -179,7 +179,7 @@ fn run_text(alloc: Global, first: usize, past: usize) -> Result<String, AllocErr
     format!(in alloc; " -{far}..-{near}")
 }
 
-/// The words that are kept whole on the stack, a line for each.
+/// Writes a line for each word that is kept whole on the stack.
 fn kept_lines(
     alloc: Global,
     shapes: &[MapShape],
@@ -195,7 +195,7 @@ fn kept_lines(
     Ok(text)
 }
 
-/// The word that is kept in a slot of the stack, if one is known.
+/// Writes the line of the word that is kept in a slot of the stack; empty if none is known.
 fn kept_line(
     alloc: Global,
     shapes: &[MapShape],

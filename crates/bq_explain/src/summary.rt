@@ -20,7 +20,7 @@ pub struct Summary {
     pub slots: usize,
 }
 
-/// What the policy's program uses.
+/// Finds what the policy's program uses.
 pub(crate) fn summary_of(alloc: Global, policy: &PolicySource) -> Result<Summary, AllocError> {
     let insns = policy.insns.as_slice();
     Ok(Summary {
@@ -30,7 +30,7 @@ pub(crate) fn summary_of(alloc: Global, policy: &PolicySource) -> Result<Summary
     })
 }
 
-/// The one line on an accepted program: its hook, budget, version, maps, helpers, calls of counters and slots.
+/// Writes the one line on an accepted program: its hook, budget, version, maps, helpers, calls of counters and slots.
 pub(crate) fn summary_text(
     alloc: Global,
     policy: &PolicySource,
@@ -60,7 +60,7 @@ pub(crate) fn accepted_beginning(
     format!(in alloc; "accepted {hook} budget {budget} of {SLOTS}, version {version}, maps {maps}")
 }
 
-/// How many slots the instructions take.
+/// Counts the slots that the instructions take.
 fn slot_count(insns: &[Insn]) -> usize {
     let mut count: usize = 0;
     for insn in insns {
@@ -69,7 +69,7 @@ fn slot_count(insns: &[Insn]) -> usize {
     count
 }
 
-/// The shapes of the maps, as `--maps` takes them, or `none`.
+/// Writes the shapes of the maps as `--maps` takes them, or `none`.
 pub fn maps_text(alloc: Global, shapes: &[MapShape]) -> Result<String, AllocError>
     ensures { IfOk result (λ text. string_bytes text ≡ map_shapes_text shapes.now) }
 {
@@ -84,7 +84,7 @@ pub fn maps_text(alloc: Global, shapes: &[MapShape]) -> Result<String, AllocErro
     }
 }
 
-/// The numbers of the helpers that are called, each once, the least first.
+/// Lists the numbers of the helpers that are called, each once, the least first.
 fn helpers_of(alloc: Global, insns: &[Insn]) -> Result<Vec<i32>, AllocError> {
     let mut helpers = Vec::new(alloc);
     for insn in insns {
@@ -97,7 +97,7 @@ fn helpers_of(alloc: Global, insns: &[Insn]) -> Result<Vec<i32>, AllocError> {
     Ok(helpers)
 }
 
-/// The numbers with commas between, or `none`.
+/// Writes the numbers with commas between them, or `none`.
 fn helpers_text(alloc: Global, helpers: &[i32]) -> Result<String, AllocError> {
     let mut text = String::new(alloc);
     for number in helpers {

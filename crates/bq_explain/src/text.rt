@@ -20,8 +20,8 @@ use bq_needs::need_text;
 use bq_policy_file::PolicySource;
 use std::alloc::{AllocError, Global};
 
-/// The explanation, line by line; the first line is `accepted` or `refused` and why. The file's name, if there is one,
-/// comes before the place of the instruction that is at fault.
+/// Writes the explanation line by line. The first line is `accepted`, or `refused` and why. The file's name, if there is one, comes
+/// before the place of the instruction that is at fault.
 pub fn explanation_text(
     alloc: Global,
     policy: &PolicySource,

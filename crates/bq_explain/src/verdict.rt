@@ -38,7 +38,7 @@ impl Verdict {
     }
 }
 
-/// The verdict on a policy. The verifier is asked first, then the limits: steps, helpers, hook, maps, their bytes, counters.
+/// Judges a policy. The verifier is asked first, then the limits: steps, helpers, hook, maps, their bytes, counters.
 pub fn judge(alloc: Global, policy: &PolicySource, limits: &Limits) -> Result<Verdict, AllocError>
     ensures { IfOk result (IsVerdict policy.now limits.now) }
 {
@@ -50,7 +50,7 @@ pub fn judge(alloc: Global, policy: &PolicySource, limits: &Limits) -> Result<Ve
     }
 }
 
-/// The verdict on a policy that the verifier accepts with this budget.
+/// Judges by the limits a policy that the verifier accepts with this budget.
 fn limited(policy: &PolicySource, limits: &Limits, budget: u32) -> Verdict
     requires { IsAcceptedPolicy policy.now budget }
     ensures { IsVerdict policy.now limits.now result }
@@ -72,7 +72,7 @@ fn limited(policy: &PolicySource, limits: &Limits, budget: u32) -> Verdict
     }
 }
 
-/// The line that tells a verdict, as `check` tells it of a policy of that hook.
+/// Writes the line that tells a verdict, as `check` tells it of a policy of that hook.
 pub fn verdict_line(alloc: Global, hook: Hook, verdict: Verdict) -> Result<String, AllocError>
     ensures { IfOk result (λ text. string_bytes text ≡ verdict_line hook verdict) }
 {
@@ -94,7 +94,7 @@ pub fn verdict_line(alloc: Global, hook: Hook, verdict: Verdict) -> Result<Strin
     }
 }
 
-/// The line on a limit that a policy is beyond.
+/// Writes the line on a limit that a policy exceeds.
 fn exceeded_line(alloc: Global, over: ExceededLimit) -> Result<String, AllocError>
     ensures { IfOk result (λ text. string_bytes text ≡ exceeded_line over) }
 {
