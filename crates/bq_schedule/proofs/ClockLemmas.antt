@@ -1,5 +1,5 @@
 -- The clocks of a schedule, and who runs, are those of its history.
-use Rattle.std.proofs.Common.{◌≡◌, ◌≢◌, ℕ, ◌<◌, Bool, true, false, [], ◌∷◌, length, get_or, Option, Some, None, Result, Ok, Err, refl, sym, ap, ◌∙◌, ◌⊎◌, inl, inr, get_or-set_same, get_or-set_other, eqb, ltb, cond, arith, ltb-true}
+use Rattle.std.proofs.Common.{◌≡◌, ◌≢◌, ℕ, ◌<◌, Bool, true, false, [], ◌∷◌, length, get_or, Option, Some, None, Result, Ok, Err, refl, sym, ap, ◌∙◌, subst, ◌⊎◌, inl, inr, get_or-set_same, get_or-set_other, eqb, ltb, cond, arith, ltb-true}
 use Rattle.std.specs.Prelude.{unwrap_or, slice_set}
 use Rattle.std.proofs.lemmas.Bool.Decides.{eqb_tells, nat_tests}
 use Rattle.std.proofs.lemmas.List.{get_or-replicate, length-replicate}
@@ -124,18 +124,23 @@ shows-performed s (Pull processor from now) (Pulled task run by steps) there =
 shows-performed s e r there = (works-id s, running-id s)
 
 -- what is not below a number is not below it
-pub not_below : (a b : ℕ) → ltb a b ≡ false → a < b → ⊥
+not_below : (a b : ℕ) → ltb a b ≡ false → a < b → ⊥
 not_below a b e h = grind (arith, nat_tests)
 
--- where the event's processor is not there, nothing is shown of one that is
+-- where the event's processor is not there, a reply that shows nothing of such a one shows nothing
+pub shown_by_reply-none : (s : Figures) (e : Event) (r : Reply) → is_there s e ≡ false → IsShownWithin (length s.processors) (shown_by_reply e r)
+    → shown_by_reply e r ≡ None
+shown_by_reply-none s (EndWake processor now) (Placed task to by steps) none h = absurd (not_below processor (length s.processors) none h)
+shown_by_reply-none s (Drain processor now) (Drained count run by steps) none h = absurd (not_below processor (length s.processors) none h)
+shown_by_reply-none s (Tick processor now) (Ticked run by steps) none h = absurd (not_below processor (length s.processors) none h)
+shown_by_reply-none s (Block processor now) (Went task run) none h = absurd (not_below processor (length s.processors) none h)
+shown_by_reply-none s (Pull processor from now) (Pulled task run by steps) none h = absurd (not_below processor (length s.processors) none h)
+shown_by_reply-none s e r none h = refl
+
+-- there the figures stay as they are, and so does what is shown
 shows-nothing : (s : Figures) (e : Event) (r : Reply) → is_there s e ≡ false → IsShownWithin (length s.processors) (shown_by_reply e r)
     → Shows s s (shown_by_reply e r)
-shows-nothing s (EndWake processor now) (Placed task to by steps) none h = absurd (not_below processor (length s.processors) none h)
-shows-nothing s (Drain processor now) (Drained count run by steps) none h = absurd (not_below processor (length s.processors) none h)
-shows-nothing s (Tick processor now) (Ticked run by steps) none h = absurd (not_below processor (length s.processors) none h)
-shows-nothing s (Block processor now) (Went task run) none h = absurd (not_below processor (length s.processors) none h)
-shows-nothing s (Pull processor from now) (Pulled task run by steps) none h = absurd (not_below processor (length s.processors) none h)
-shows-nothing s e r none h = (works-id s, running-id s)
+shows-nothing s e r none h = subst (Shows s s) (sym (shown_by_reply-none s e r none h)) (works-id s, running-id s)
 
 -- a reply does what it shows, whether or not its processor is there
 shows-if : (b : Bool) (s : Figures) (e : Event) (r : Reply) → is_there s e ≡ b → IsShownWithin (length s.processors) (shown_by_reply e r)

@@ -1,26 +1,21 @@
 -- The runs that are reported are those that the slices make.
-use Rattle.std.proofs.Common.{◌≡◌, ◌≢◌, ℕ, ◌<◌, Bool, true, false, List, [], ◌∷◌, ◌++◌, length, Option, Some, None, Result, Ok, Err, refl, sym, ap, ◌∙◌, ◌⊎◌, inl, inr, eqb, ltb, cond, append-nil, append_assoc, arith, eqb-true}
+use Rattle.std.proofs.Common.{◌≡◌, ◌≢◌, ℕ, ◌<◌, Bool, true, false, List, [], ◌∷◌, ◌++◌, length, Option, Some, None, refl, sym, ap, ◌∙◌, ◌⊎◌, inl, inr, eqb, ltb, cond, append-nil, append_assoc, arith, eqb-true}
 use Rattle.std.specs.Prelude.{option_to_list, ◌&&◌}
 use Rattle.std.proofs.lemmas.Bool.Decides.{eqb_tells}
 use Rattle.std.proofs.lemmas.List.{get_or-replicate}
 use Rattle.std.proofs.lemmas.List.Elements.{filter-append}
 use Rattle.std.proofs.lemmas.Bool.{and_parts}
-use Rattle.bq_parts.specs.declared.event.Event.{Event}
-use Rattle.bq_parts.specs.declared.event.Event.TheVariants.{EndWake, Drain, Tick, Block, Pull}
-use Rattle.bq_parts.specs.declared.reply.Reply.{Reply}
-use Rattle.bq_parts.specs.declared.reply.Reply.TheVariants.{Placed, Drained, Ticked, Blocked, Pulled}
-use Rattle.bq_parts.specs.declared.refusal.Refusal.{Refusal}
 use Rattle.bq_schedule.specs.declared.slice.Slice.{Slice}
 use Rattle.bq_schedule.specs.declared.figures.ProcessorFigures.{ProcessorFigures}
 use Rattle.bq_schedule.specs.Histories.{History}
 use Rattle.bq_schedule.specs.Figures.{Figures, unread, processor_in_figures}
-use Rattle.bq_schedule.specs.Passing.{continues_run, slice_at, joined_run, ended_run, processor_read}
-use Rattle.bq_schedule.specs.Slices.{ShownByAnswer, shown_by_reply, shown_by_answer, runner, slice_of, slice_shown, slices, slices_at, is_slice_at, slice_joined, runs}
-use Rattle.bq_schedule.specs.Steps.{report_of_answer, change, nothing, is_there, figures_after, figures}
+use Rattle.bq_schedule.specs.Passing.{continues_run, joined_run, ended_run, processor_read}
+use Rattle.bq_schedule.specs.Slices.{ShownByAnswer, shown_by_answer, runner, slice_of, slice_shown, slices, slices_at, is_slice_at, slice_joined, runs}
+use Rattle.bq_schedule.specs.Steps.{change, figures_after, figures}
 use Rattle.bq_schedule.specs.Laws.{IsShownWithin, IsOfProcessors, reported_if, reported_runs, ReportsRuns}
 use Rattle.bq_schedule.proofs.FrameLemmas.{Works}
-use Rattle.bq_schedule.proofs.ClockLemmas.{Shows, shows-after, count-figures, within-figures, processor-read_at, not_below}
-use Rattle.bq_schedule.proofs.SliceTimeLemmas.{slice_seen, shown-seen}
+use Rattle.bq_schedule.proofs.ClockLemmas.{Shows, shows-after, count-figures, within-figures, processor-read_at}
+use Rattle.bq_schedule.proofs.SliceTimeLemmas.{slice_seen, run_seen, seen-change, shown-seen}
 use Rattle.bq_schedule.proofs.ApartLemmas.{at_only, filter-one}
 
 -- the last of some runs is joined to another slice
@@ -106,39 +101,6 @@ more reported (Some r) (Some y) xs h = record {
       (runs-push xs y ∙ ap (λ zs. last_joined zs y) (sym h.all) ∙ last-front reported r y ∙ reported-one reported r y (continues_run r y) refl);
   first = λ e. absurd (some_run r y (continues_run r y) e);
 }
-
--- the run that is reported with a slice
-abbrev pub run_seen : Figures → Option ShownByAnswer → Option Slice
-run_seen s None = None
-run_seen s (Some x) = ended_run (processor_in_figures s x.processor).run (slice_at x.processor (processor_in_figures s x.processor) x.now)
-
--- the run that is reported of an event is the one that its answer ends, by cases:
-seen-performed : (s : Figures) (e : Event) (r : Reply) → (report_of_answer s e r).run ≡ run_seen s (shown_by_reply e r)
-seen-performed s (EndWake processor now) (Placed task to by steps) = refl
-seen-performed s (Drain processor now) (Drained count run by steps) = refl
-seen-performed s (Tick processor now) (Ticked run by steps) = refl
-seen-performed s (Block processor now) (Blocked task run) = refl
-seen-performed s (Pull processor from now) (Pulled task run by steps) = refl
-seen-performed s e r = refl
-
-seen-nothing : (s : Figures) (e : Event) (r : Reply) → is_there s e ≡ false → IsShownWithin (length s.processors) (shown_by_reply e r)
-    → None ≡ run_seen s (shown_by_reply e r)
-seen-nothing s (EndWake processor now) (Placed task to by steps) none h = absurd (not_below processor (length s.processors) none h)
-seen-nothing s (Drain processor now) (Drained count run by steps) none h = absurd (not_below processor (length s.processors) none h)
-seen-nothing s (Tick processor now) (Ticked run by steps) none h = absurd (not_below processor (length s.processors) none h)
-seen-nothing s (Block processor now) (Blocked task run) none h = absurd (not_below processor (length s.processors) none h)
-seen-nothing s (Pull processor from now) (Pulled task run by steps) none h = absurd (not_below processor (length s.processors) none h)
-seen-nothing s e r none h = refl
-
-seen-if : (b : Bool) (s : Figures) (e : Event) (r : Reply) → is_there s e ≡ b → IsShownWithin (length s.processors) (shown_by_reply e r)
-    → (cond b (report_of_answer s e r) nothing).run ≡ run_seen s (shown_by_reply e r)
-seen-if true s e r there h = seen-performed s e r
-seen-if false s e r there h = seen-nothing s e r there h
-
-seen-change : (s : Figures) (e : Event) (a : Result Reply Refusal)
-    → IsShownWithin (length s.processors) (shown_by_answer e a) → (change s e a).run ≡ run_seen s (shown_by_answer e a)
-seen-change s e (Ok r) h = seen-if (is_there s e) s e r refl h
-seen-change s e (Err r) h = refl
 
 -- what an answered event ends at a processor, and which run it makes there
 run-there : (s s' : Figures) (x : ShownByAnswer) (j : ℕ) (b : Bool) → eqb x.processor j ≡ b → j < length s.processors → Shows s s' (Some x) →
@@ -242,7 +204,7 @@ reported count (m ∷ past) processor h inside =
     ∙ ap (λ ys. slices_at processor past ++ ys) (filter-one processor (slice_shown past o)) in
     same_runs _ _ _ _ _ _ refl refl is
     (reported-step count past processor (figures_after s m.event m.answer) o (change s m.event m.answer).run h.1 h.0 inside
-    (shows-after s m.event m.answer w) (seen-change s m.event m.answer w) (reported count past processor h.1 inside))
+    (shows-after s m.event m.answer w) (seen-change s m.event m.answer w).run (reported count past processor h.1 inside))
 
 -- in each history the reported runs of a processor, with the last one, are the runs of its slices
 pub reports_runs : ReportsRuns

@@ -27,7 +27,7 @@ use Rattle.bq_schedule.specs.Steps.{nothing, figures_counted, figures_taken, emp
 use Rattle.bq_schedule.specs.Switches.{why_left}
 use Rattle.bq_schedule.specs.Laws.{IsShownWithin, IsOfProcessors, ReportsStarts, ReportsStops}
 use Rattle.bq_schedule.proofs.FrameLemmas.{KeepsRunning, works-counted, works-leaves, works-taken, works-stopped, processors-begun_if, running-then, running-id, running-with_processor, running-counted, running-leaves, running-taken, running-read_at, runs-switched, who_is, count-read_at}
-use Rattle.bq_schedule.proofs.ClockLemmas.{figures-clocks, shows-performed, within-figures, not_below}
+use Rattle.bq_schedule.proofs.ClockLemmas.{figures-clocks, shows-performed, within-figures, shown_by_reply-none}
 
 -- a switch at a processor: what is reported of it, and what runs afterwards
 pub record Switches (s s' : Figures) (reason : StopReason) (processor at : ℕ) (run : Option ℕ) (stop : Option Stop)
@@ -156,12 +156,7 @@ performed-reports s e r there = (refl, refl, running-id s)
 
 nothing-reports : (s : Figures) (e : Event) (r : Reply) → is_there s e ≡ false → IsShownWithin (length s.processors) (shown_by_reply e r)
     → ReportsSwitch s s e (shown_by_reply e r) None None
-nothing-reports s (EndWake processor now) (Placed task to by steps) none h = absurd (not_below processor (length s.processors) none h)
-nothing-reports s (Drain processor now) (Drained count run by steps) none h = absurd (not_below processor (length s.processors) none h)
-nothing-reports s (Tick processor now) (Ticked run by steps) none h = absurd (not_below processor (length s.processors) none h)
-nothing-reports s (Block processor now) (Went task run) none h = absurd (not_below processor (length s.processors) none h)
-nothing-reports s (Pull processor from now) (Pulled task run by steps) none h = absurd (not_below processor (length s.processors) none h)
-nothing-reports s e r none h = (refl, refl, running-id s)
+nothing-reports s e r none h = subst (λ o. ReportsSwitch s s e o None None) (sym (shown_by_reply-none s e r none h)) (refl, refl, running-id s)
 
 reports-if : (b : Bool) (s : Figures) (e : Event) (r : Reply)
     → is_there s e ≡ b → IsShownWithin (length s.processors) (shown_by_reply e r)

@@ -1,5 +1,5 @@
 -- Fair times rise by what readings give, and with what is left over they add up to the time in which tasks ran.
-use Rattle.std.proofs.Common.{◌≡◌, ◌≢◌, ℕ, ◌+◌, ◌-◌, ◌*◌, ◌<◌, ◌≤◌, Bool, true, false, List, [], ◌∷◌, length, get_or, Option, Some, None, Result, Ok, Err, refl, sym, ap, ◌∙◌, ◌⊎◌, inl, inr, eqb, leb, cond, zero, suc, replicate, get_or-set_same, get_or-set_other, arith}
+use Rattle.std.proofs.Common.{◌≡◌, ◌≢◌, ℕ, ◌+◌, ◌-◌, ◌*◌, ◌<◌, ◌≤◌, Bool, true, false, List, [], ◌∷◌, length, get_or, Option, Some, None, Result, Ok, Err, refl, sym, ap, ◌∙◌, subst, ◌⊎◌, inl, inr, eqb, leb, cond, zero, suc, replicate, get_or-set_same, get_or-set_other, arith}
 use Rattle.std.specs.Prelude.{slice_set, ℤ}
 use Rattle.std.specs.List.{sum_by}
 use Rattle.std.proofs.Math.Nat.{div-le_self, mul-div-le}
@@ -29,7 +29,7 @@ use Rattle.bq_schedule.specs.Steps.{figures_counted, figures_admitted, waited_th
 use Rattle.bq_schedule.specs.FairTimes.{weight_there, weights_at, share, all_fair, all_unshared, all_busy}
 use Rattle.bq_schedule.specs.Laws.{IsShownWithin, IsOfProcessors, SharesOut, AddsUpFairTimes}
 use Rattle.bq_schedule.proofs.FrameLemmas.{Works, KeepsWorks, works-id, works-then, processor_kept, task_kept, works-with_processor, works-with_task, works-counted, works-leaves, works-comes, works-switched, processors-read_at, count-read_at, tasks-read_at}
-use Rattle.bq_schedule.proofs.ClockLemmas.{count-figures, within-figures, not_below}
+use Rattle.bq_schedule.proofs.ClockLemmas.{count-figures, within-figures, shown_by_reply-none}
 use Rattle.bq_schedule.proofs.SumLemmas.{clocks-are-short}
 use Rattle.bq_schedule.proofs.WindowLemmas.{figures_are_filled, IsFilled}
 use Rattle.bq_schedule.proofs.PurseLemmas
@@ -232,12 +232,7 @@ goes-performed s e r = goes-id s
 -- where the event's processor is not there, figures that stay as they are leave each task what it has
 goes-nothing : (s : Figures) (e : Event) (r : Reply) → is_there s e ≡ false → IsShownWithin (length s.processors) (shown_by_reply e r)
     → GoesFrom s (shown_by_reply e r) s
-goes-nothing s (EndWake processor now) (Placed task to by steps) none h = absurd (not_below processor (length s.processors) none h)
-goes-nothing s (Drain processor now) (Drained count run by steps) none h = absurd (not_below processor (length s.processors) none h)
-goes-nothing s (Tick processor now) (Ticked run by steps) none h = absurd (not_below processor (length s.processors) none h)
-goes-nothing s (Block processor now) (Went task run) none h = absurd (not_below processor (length s.processors) none h)
-goes-nothing s (Pull processor from now) (Pulled task run by steps) none h = absurd (not_below processor (length s.processors) none h)
-goes-nothing s e r none h = goes-id s
+goes-nothing s e r none h = subst (λ o. GoesFrom s o s) (sym (shown_by_reply-none s e r none h)) (goes-id s)
 
 -- after its reading an event leaves each task what it has, whether its processor is there, and whether it is refused:
 goes-if : (b : Bool) (s : Figures) (e : Event) (r : Reply) → is_there s e ≡ b → IsShownWithin (length s.processors) (shown_by_reply e r)

@@ -32,7 +32,7 @@ use Rattle.bq_schedule.specs.Waits.{gives_way, then_if, wait_begins, waits_since
 use Rattle.bq_schedule.specs.Laws.{IsShownWithin, IsOfProcessors, ReportsWaits, AddsUpWaits}
 use Rattle.bq_schedule.proofs.CountLemmas.{saturating_sum-both}
 use Rattle.bq_schedule.proofs.FrameLemmas.{task_kept, who_is}
-use Rattle.bq_schedule.proofs.ClockLemmas.{figures-clocks, within-figures, not_below}
+use Rattle.bq_schedule.proofs.ClockLemmas.{figures-clocks, within-figures, shown_by_reply-none}
 use Rattle.bq_schedule.proofs.SumLemmas.{tasks-figures}
 use Rattle.bq_schedule.proofs.WakeLemmas.{runs-counted, runs-block, runs-pull}
 use Rattle.bq_schedule.proofs.SwitchLemmas.{not_who, of_some}
@@ -309,6 +309,14 @@ wait_seen j s (Pull processor from now) (Ok (Pulled task run by steps)) =
     then_if (is_this j task || gives_way j (running_task (processor_in_figures s processor)) run) (time_at processor now s)
 wait_seen j s e a = None
 
+-- what shows nothing has no task wait
+wait_seen-none : (j : ℕ) (s : Figures) (e : Event) (r : Reply) → shown_by_reply e r ≡ None → wait_seen j s e (Ok r) ≡ None
+wait_seen-none j s (EndWake processor now) (Placed task to by steps) h = absurd (cc)
+wait_seen-none j s (Drain processor now) (Drained count run by steps) h = absurd (cc)
+wait_seen-none j s (Tick processor now) (Ticked run by steps) h = absurd (cc)
+wait_seen-none j s (Pull processor from now) (Pulled task run by steps) h = absurd (cc)
+wait_seen-none j s e r h = refl
+
 -- since when a task waits, and how long it has, after an answer; and what that tells
 pub record ReportsWaited (s s' : Figures) (j : ℕ) (seen : Option ℕ) (c : Change) : Type 0 where
   pub waiting_since : (task_in_figures s' j).waiting_since ≡ unwrap_or seen (task_in_figures s j).waiting_since
@@ -460,12 +468,8 @@ performed-reports s e r j inside = nothing-reports s j nothing refl refl
 none-reports : (s : Figures) (e : Event) (r : Reply) (j : ℕ) → is_there s e ≡ false
     → IsShownWithin (length s.processors) (shown_by_reply e r)
     → ReportsWaited s s j (wait_seen j s e (Ok r)) nothing
-none-reports s (EndWake processor now) (Placed task to by steps) j none h = absurd (not_below processor (length s.processors) none h)
-none-reports s (Drain processor now) (Drained count run by steps) j none h = absurd (not_below processor (length s.processors) none h)
-none-reports s (Tick processor now) (Ticked run by steps) j none h = absurd (not_below processor (length s.processors) none h)
-none-reports s (Block processor now) (Went task run) j none h = absurd (not_below processor (length s.processors) none h)
-none-reports s (Pull processor from now) (Pulled task run by steps) j none h = absurd (not_below processor (length s.processors) none h)
-none-reports s e r j none h = nothing-reports s j nothing refl refl
+none-reports s e r j none h =
+    subst (λ seen. ReportsWaited s s j seen nothing) (sym (wait_seen-none j s e r (shown_by_reply-none s e r none h))) (nothing-reports s j nothing refl refl)
 
 reports-if : (b : Bool) (s : Figures) (e : Event) (r : Reply) (j : ℕ)
     → is_there s e ≡ b → j < length s.tasks → IsShownWithin (length s.processors) (shown_by_reply e r)

@@ -28,7 +28,7 @@ use Rattle.bq_schedule.specs.Wakes.{begins_as, begins_run, wake_end, awaited_aft
 use Rattle.bq_schedule.specs.Steps.{nothing, figures_counted, waited_there, figures_taken, placed, figures_decided, blocked, figures_pulled, performed, report_of_answer, time_at, is_there, figures_after, change, figures}
 use Rattle.bq_schedule.specs.Laws.{IsShownWithin, IsOfProcessors, ReportsLatencies}
 use Rattle.bq_schedule.proofs.FrameLemmas.{task_kept, running-counted, running-leaves, running-taken, running-read_at}
-use Rattle.bq_schedule.proofs.ClockLemmas.{figures-clocks, within-figures, not_below}
+use Rattle.bq_schedule.proofs.ClockLemmas.{figures-clocks, within-figures, shown_by_reply-none}
 use Rattle.bq_schedule.proofs.SumLemmas.{tasks-figures}
 
 -- what keeps which wakes are awaited
@@ -287,12 +287,11 @@ performed-awaits s e r j inside = refl
 
 nothing-awaits : (s : Figures) (e : Event) (r : Reply) (j : ℕ)
     → is_there s e ≡ false → IsShownWithin (length s.processors) (shown_by_reply e r) → AwaitsAfter j s s e (Ok r)
-nothing-awaits s (EndWake processor now) (Placed task to by steps) j none h = absurd (not_below processor (length s.processors) none h)
-nothing-awaits s (Drain processor now) (Drained count run by steps) j none h = absurd (not_below processor (length s.processors) none h)
-nothing-awaits s (Tick processor now) (Ticked run by steps) j none h = absurd (not_below processor (length s.processors) none h)
-nothing-awaits s (Block processor now) (Went task run) j none h = absurd (not_below processor (length s.processors) none h)
-nothing-awaits s (Pull processor from now) (Pulled task run by steps) j none h = absurd (not_below processor (length s.processors) none h)
-nothing-awaits s e r j none h = refl
+nothing-awaits s (EndWake processor now) (Placed task to by steps) j none h =
+    let shown = shown_by_reply-none s (EndWake processor now) (Placed task to by steps) none h in absurd (cc)
+nothing-awaits s e r j none h =
+    let before = (task_in_figures s j).woken_at in
+    subst (λ o. before ≡ awaited_after None (begins_seen j s o) before) (sym (shown_by_reply-none s e r none h)) refl
 
 awaits-if : (b : Bool) (s : Figures) (e : Event) (r : Reply) (j : ℕ)
     → is_there s e ≡ b → j < length s.tasks → IsShownWithin (length s.processors) (shown_by_reply e r)
