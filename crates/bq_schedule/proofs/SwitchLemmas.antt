@@ -90,37 +90,37 @@ ReportsSwitch s s' e None stop start = (stop ≡ None) × (start ≡ None) × Ke
 ReportsSwitch s s' e (Some x) stop start = ReportsRunning s s' (why_left e) x.processor (time_at x.processor x.now s) x.run stop start
 
 -- a decision, a block and a pull tell the switch that they make:
-decided-reports : (processor now : ℕ) (d : Decision) (run : Option ℕ) (s s' : Figures)
+decided-switches : (processor now : ℕ) (d : Decision) (run : Option ℕ) (s s' : Figures)
     → processor < length s.processors → KeepsRunning (figures_decided processor now d run s) s'
     → let t = figures_counted processor d (figures_read processor now s) in
     Switches s s' Preempted processor (time_at processor now s) run (stop_at Preempted processor (time_at processor now s) run t)
     (start_at Preempted processor (time_at processor now s) run t)
-decided-reports processor now d run s s' inside k =
+decided-switches processor now d run s s' inside k =
     let r = figures_read processor now s in
     let t = figures_counted processor d r in
     switch Preempted processor (time_at processor now s) run s t s'
     (running-then s r t (running-read_at processor now s) (running-counted processor d r))
     (omega (arith, count-read_at processor now s, (works-counted processor d r).count)) k
 
-blocked-reports : (processor now id : ℕ) (run : Option ℕ) (s : Figures)
+blocked-switches : (processor now id : ℕ) (run : Option ℕ) (s : Figures)
     → processor < length s.processors
     → let t = figures_left id (figures_read processor now s) in
     Switches s (blocked processor now id run s) Blocked processor (time_at processor now s) run
     (stop_at Blocked processor (time_at processor now s) run t) (start_at Blocked processor (time_at processor now s) run t)
-blocked-reports processor now id run s inside =
+blocked-switches processor now id run s inside =
     let r = figures_read processor now s in
     let t = figures_left id r in
     switch Blocked processor (time_at processor now s) run s t (blocked processor now id run s)
     (running-then s r t (running-read_at processor now s) (running-leaves id r))
     (omega (arith, count-read_at processor now s, (works-leaves id r).count)) (running-id (blocked processor now id run s))
 
-pulled-reports : (processor now : ℕ) (d : Decision) (task run : Option ℕ) (s : Figures)
+pulled-switches : (processor now : ℕ) (d : Decision) (task run : Option ℕ) (s : Figures)
     → processor < length s.processors
     → let t = figures_taken processor (time_at processor now s) task (figures_counted processor d (figures_read processor now s)) in
     Switches s (figures_pulled processor now d task run s) Preempted processor
     (time_at processor now s) run (stop_at Preempted processor (time_at processor now s) run t)
     (start_at Preempted processor (time_at processor now s) run t)
-pulled-reports processor now d task run s inside =
+pulled-switches processor now d task run s inside =
     let r = figures_read processor now s in
     let a = figures_counted processor d r in
     let at = time_at processor now s in
@@ -132,45 +132,45 @@ pulled-reports processor now d task run s inside =
     (running-id (figures_pulled processor now d task run s))
 
 -- each reply tells the switch that it shows, by cases:
-performed-reports : (s : Figures) (e : Event) (r : Reply) → is_there s e ≡ true
+performed-switches : (s : Figures) (e : Event) (r : Reply) → is_there s e ≡ true
     → ReportsSwitch s (performed s e r) e (shown_by_reply e r) (report_of_answer s e r).stop (report_of_answer s e r).start
-performed-reports s (Admit id nice mask slice) Admitted there =
+performed-switches s (Admit id nice mask slice) Admitted there =
     (refl, refl, (shows-performed s (Admit id nice mask slice) Admitted there).1)
-performed-reports s (EndWake processor now) (Placed task to by steps) there =
+performed-switches s (EndWake processor now) (Placed task to by steps) there =
     (refl, refl, (shows-performed s (EndWake processor now) (Placed task to by steps) there).1)
-performed-reports s (Drain processor now) (Drained count run by steps) there =
+performed-switches s (Drain processor now) (Drained count run by steps) there =
     let d : Decision = record { hook = Preempt; by = by; steps = steps } in
     let q = figures_decided processor now d run s in
-    decided-reports processor now d run s (emptied processor q) (ltb-true processor (length s.processors) there)
+    decided-switches processor now d run s (emptied processor q) (ltb-true processor (length s.processors) there)
     (running-with_processor q processor _ refl)
-performed-reports s (Tick processor now) (Ticked run by steps) there =
+performed-switches s (Tick processor now) (Ticked run by steps) there =
     let d : Decision = record { hook = Preempt; by = by; steps = steps } in
-    decided-reports processor now d run s (figures_decided processor now d run s) (ltb-true processor (length s.processors) there)
+    decided-switches processor now d run s (figures_decided processor now d run s) (ltb-true processor (length s.processors) there)
     (running-id (figures_decided processor now d run s))
-performed-reports s (Block processor now) (Went task run) there =
-    blocked-reports processor now task run s (ltb-true processor (length s.processors) there)
-performed-reports s (Pull processor from now) (Pulled task run by steps) there =
-    pulled-reports processor now (record { hook = OnPull; by = by; steps = steps }) task run s
+performed-switches s (Block processor now) (Went task run) there =
+    blocked-switches processor now task run s (ltb-true processor (length s.processors) there)
+performed-switches s (Pull processor from now) (Pulled task run by steps) there =
+    pulled-switches processor now (record { hook = OnPull; by = by; steps = steps }) task run s
     (ltb-true processor (length s.processors) there)
-performed-reports s e r there = (refl, refl, running-id s)
+performed-switches s e r there = (refl, refl, running-id s)
 
-nothing-reports : (s : Figures) (e : Event) (r : Reply) → is_there s e ≡ false → IsShownWithin (length s.processors) (shown_by_reply e r)
+nothing-switches : (s : Figures) (e : Event) (r : Reply) → is_there s e ≡ false → IsShownWithin (length s.processors) (shown_by_reply e r)
     → ReportsSwitch s s e (shown_by_reply e r) None None
-nothing-reports s e r none h = subst (λ o. ReportsSwitch s s e o None None) (sym (shown_by_reply-none s e r none h)) (refl, refl, running-id s)
+nothing-switches s e r none h = subst (λ o. ReportsSwitch s s e o None None) (sym (shown_by_reply-none s e r none h)) (refl, refl, running-id s)
 
-reports-if : (b : Bool) (s : Figures) (e : Event) (r : Reply)
+switches-if : (b : Bool) (s : Figures) (e : Event) (r : Reply)
     → is_there s e ≡ b → IsShownWithin (length s.processors) (shown_by_reply e r)
     → ReportsSwitch s (cond b (performed s e r) s) e (shown_by_reply e r) (cond b (report_of_answer s e r) nothing).stop
     (cond b (report_of_answer s e r) nothing).start
-reports-if true s e r there h = performed-reports s e r there
-reports-if false s e r there h = nothing-reports s e r there h
+switches-if true s e r there h = performed-switches s e r there
+switches-if false s e r there h = nothing-switches s e r there h
 
 -- each answer tells the switch that it shows
-reports : (s : Figures) (e : Event) (a : Result Reply Refusal)
+switches-after : (s : Figures) (e : Event) (a : Result Reply Refusal)
     → IsShownWithin (length s.processors) (shown_by_answer e a)
     → ReportsSwitch s (figures_after s e a) e (shown_by_answer e a) (change s e a).stop (change s e a).start
-reports s e (Ok r) h = reports-if (is_there s e) s e r refl h
-reports s e (Err r) h = (refl, refl, record { at = λ j. refl })
+switches-after s e (Ok r) h = switches-if (is_there s e) s e r refl h
+switches-after s e (Err r) h = (refl, refl, record { at = λ j. refl })
 
 -- where it is another than who ran, it is not who runs
 pub not_who : (running : Option Start) (run : Option ℕ) → is_run_by running run ≡ false → option_map (λ (x : Start). x.task) running ≢ run
@@ -345,7 +345,7 @@ pub answer_reports : (count : ℕ) (past : History) (m : AnsweredEvent)
     → IsOfProcessors count (m ∷ past)
     → ReportsSwitch (figures count past) (figures count (m ∷ past)) m.event (shown_by_answer m.event m.answer)
     (change (figures count past) m.event m.answer).stop (change (figures count past) m.event m.answer).start
-answer_reports count past m h = reports (figures count past) m.event m.answer (within-figures count past m h)
+answer_reports count past m h = switches-after (figures count past) m.event m.answer (within-figures count past m h)
 
 -- a start is reported exactly when a task begins to run
 pub reports_starts : ReportsStarts

@@ -328,10 +328,10 @@ then-is true at waiting_since = refl
 then-is false at waiting_since = refl
 
 -- a placement, and a switch after steps that keep waits, tell the waits that they make:
-placed-reports : (processor now : ℕ) (d : Decision) (id to : ℕ) (s : Figures) (j : ℕ) (c : Change)
+placed-waits : (processor now : ℕ) (d : Decision) (id to : ℕ) (s : Figures) (j : ℕ) (c : Change)
     → j < length s.tasks → c.pull ≡ None → c.start ≡ None
     → ReportsWaited s (placed processor now d id to s) j (then_if (eqb id j) (time_at processor now s)) c
-placed-reports processor now d id to s j c inside p st =
+placed-waits processor now d id to s j c inside p st =
     let at = time_at processor now s in
     let a = figures_counted processor d (figures_read processor now s) in
     let k = kept-counted processor now d s in
@@ -347,12 +347,12 @@ placed-reports processor now d id to s j c inside p st =
           ∙ ap (λ o. saturating_sum (task_in_figures s j).waited (0 + wait_of_start j o)) st);
     }
 
-switch-reports : (reason : StopReason) (processor at : ℕ) (run : Option ℕ) (s t : Figures) (j : ℕ) (c : Change)
+switched-waits : (reason : StopReason) (processor at : ℕ) (run : Option ℕ) (s t : Figures) (j : ℕ) (c : Change)
     → j < length s.tasks → KeepsWaits s t → (processor_in_figures t processor).running ≡ (processor_in_figures s processor).running
     → c.pull ≡ None → c.start ≡ start_at reason processor at run t
     → ReportsWaited s (figures_switched reason processor at run t) j
     (then_if (if_preempted reason (gives_way j (running_task (processor_in_figures s processor)) run)) at) c
-switch-reports reason processor at run s t j c inside k r p st =
+switched-waits reason processor at run s t j c inside k r p st =
     let inside' : j < length t.tasks = omega (arith, k.tasks) in
     record {
       waiting_since = since-switched reason processor at run t j inside'
@@ -383,13 +383,13 @@ or-is false true at waiting_since = refl
 or-is false false at waiting_since = refl
 
 -- a pull tells the waits that it makes: of the task it takes, and of those that give way and begin
-pulled-reports : (processor from now : ℕ) (d : Decision) (task run : Option ℕ) (s : Figures) (j : ℕ) (c : Change)
+pulled-waits : (processor from now : ℕ) (d : Decision) (task run : Option ℕ) (s : Figures) (j : ℕ) (c : Change)
     → j < length s.tasks → c.pull ≡ moves_as from processor (time_at processor now s) task (figures_counted processor d (figures_read processor now s))
     → c.start ≡ start_at Preempted processor (time_at processor now s) run
     (figures_taken processor (time_at processor now s) task (figures_counted processor d (figures_read processor now s)))
     → ReportsWaited s (figures_pulled processor now d task run s) j
     (then_if (is_this j task || gives_way j (running_task (processor_in_figures s processor)) run) (time_at processor now s)) c
-pulled-reports processor from now d task run s j c inside p st =
+pulled-waits processor from now d task run s j c inside p st =
     let at = time_at processor now s in
     let a = figures_counted processor d (figures_read processor now s) in
     let t = figures_taken processor at task a in
@@ -417,9 +417,9 @@ pulled-reports processor from now d task run s j c inside p st =
           ∙ ap (λ o. saturating_sum (task_in_figures s j).waited (wait_of_pull j (moves_as from processor at task a) + wait_of_start j o)) st);
     }
 
--- where no pull and no start is reported, what changes nothing leaves the waits, and so does what keeps them:
-nothing-reports : (s : Figures) (j : ℕ) (c : Change) → c.pull ≡ None → c.start ≡ None → ReportsWaited s s j None c
-nothing-reports s j c p st = record {
+-- where no pull and no start is reported, figures that stay the same leave the waits, and so does what keeps them:
+same-waits : (s : Figures) (j : ℕ) (c : Change) → c.pull ≡ None → c.start ≡ None → ReportsWaited s s j None c
+same-waits s j c p st = record {
   waiting_since = refl;
   waited = λ h.
       saturating_sum-none (task_in_figures s j).waited h
@@ -427,65 +427,65 @@ nothing-reports s j c p st = record {
       ∙ ap (λ o. saturating_sum (task_in_figures s j).waited (0 + wait_of_start j o)) st);
 }
 
-admitted-reports : (s s' : Figures) (j : ℕ) (c : Change) → KeepsWaits s s' → c.pull ≡ None → c.start ≡ None → ReportsWaited s s' j None c
-admitted-reports s s' j c k p st =
-    let n = nothing-reports s j c p st in
+kept-waits : (s s' : Figures) (j : ℕ) (c : Change) → KeepsWaits s s' → c.pull ≡ None → c.start ≡ None → ReportsWaited s s' j None c
+kept-waits s s' j c k p st =
+    let n = same-waits s j c p st in
     record { waiting_since = k.waiting_since j; waited = λ h. k.waited j ∙ n.waited h }
 
 -- each event tells the waits that it makes, by cases:
-performed-reports : (s : Figures) (e : Event) (r : Reply) (j : ℕ)
+performed-waits : (s : Figures) (e : Event) (r : Reply) (j : ℕ)
     → j < length s.tasks
     → ReportsWaited s (performed s e r) j (wait_seen j s e (Ok r)) (report_of_answer s e r)
-performed-reports s (Admit id nice mask slice) Admitted j inside =
+performed-waits s (Admit id nice mask slice) Admitted j inside =
     let l = figures_left id s in
-    admitted-reports s (performed s (Admit id nice mask slice) Admitted) j nothing
+    kept-waits s (performed s (Admit id nice mask slice) Admitted) j nothing
     (both s l _ (kept-leaves id s) (with_one l id _ refl refl)) refl refl
-performed-reports s (EndWake processor now) (Placed task to by steps) j inside =
+performed-waits s (EndWake processor now) (Placed task to by steps) j inside =
     let d : Decision = record { hook = Place; by = by; steps = steps } in
-    placed-reports processor now d task to s j (report_of_answer s (EndWake processor now) (Placed task to by steps)) inside refl refl
-performed-reports s (Drain processor now) (Drained count run by steps) j inside =
+    placed-waits processor now d task to s j (report_of_answer s (EndWake processor now) (Placed task to by steps)) inside refl refl
+performed-waits s (Drain processor now) (Drained count run by steps) j inside =
     let d : Decision = record { hook = Preempt; by = by; steps = steps } in
     let t =
-    switch-reports Preempted processor (time_at processor now s) run s (figures_counted processor d (figures_read processor now s)) j
+    switched-waits Preempted processor (time_at processor now s) run s (figures_counted processor d (figures_read processor now s)) j
     (report_of_answer s (Drain processor now) (Drained count run by steps)) inside (kept-counted processor now d s)
     (runs-counted processor now d s processor) refl refl in
     record { waiting_since = t.waiting_since; waited = t.waited }
-performed-reports s (Tick processor now) (Ticked run by steps) j inside =
+performed-waits s (Tick processor now) (Ticked run by steps) j inside =
     let d : Decision = record { hook = Preempt; by = by; steps = steps } in
-    switch-reports Preempted processor (time_at processor now s) run s (figures_counted processor d (figures_read processor now s)) j
+    switched-waits Preempted processor (time_at processor now s) run s (figures_counted processor d (figures_read processor now s)) j
     (report_of_answer s (Tick processor now) (Ticked run by steps)) inside (kept-counted processor now d s)
     (runs-counted processor now d s processor) refl refl
-performed-reports s (Block processor now) (Went task run) j inside =
-    switch-reports Blocked processor (time_at processor now s) run s (figures_left task (figures_read processor now s)) j
+performed-waits s (Block processor now) (Went task run) j inside =
+    switched-waits Blocked processor (time_at processor now s) run s (figures_left task (figures_read processor now s)) j
     (report_of_answer s (Block processor now) (Went task run)) inside (kept-block processor now task s)
     (runs-block processor now task s processor) refl refl
-performed-reports s (Pull processor from now) (Pulled task run by steps) j inside =
+performed-waits s (Pull processor from now) (Pulled task run by steps) j inside =
     let d : Decision = record { hook = OnPull; by = by; steps = steps } in
-    pulled-reports processor from now d task run s j (report_of_answer s (Pull processor from now) (Pulled task run by steps))
+    pulled-waits processor from now d task run s j (report_of_answer s (Pull processor from now) (Pulled task run by steps))
     inside refl refl
-performed-reports s e r j inside = nothing-reports s j nothing refl refl
+performed-waits s e r j inside = same-waits s j nothing refl refl
 
-none-reports : (s : Figures) (e : Event) (r : Reply) (j : ℕ) → is_there s e ≡ false
+nothing-waits : (s : Figures) (e : Event) (r : Reply) (j : ℕ) → is_there s e ≡ false
     → IsShownWithin (length s.processors) (shown_by_reply e r)
     → ReportsWaited s s j (wait_seen j s e (Ok r)) nothing
-none-reports s e r j none h =
-    subst (λ seen. ReportsWaited s s j seen nothing) (sym (wait_seen-none j s e r (shown_by_reply-none s e r none h))) (nothing-reports s j nothing refl refl)
+nothing-waits s e r j none h =
+    subst (λ seen. ReportsWaited s s j seen nothing) (sym (wait_seen-none j s e r (shown_by_reply-none s e r none h))) (same-waits s j nothing refl refl)
 
-reports-if : (b : Bool) (s : Figures) (e : Event) (r : Reply) (j : ℕ)
+waits-if : (b : Bool) (s : Figures) (e : Event) (r : Reply) (j : ℕ)
     → is_there s e ≡ b → j < length s.tasks → IsShownWithin (length s.processors) (shown_by_reply e r)
     → ReportsWaited s (cond b (performed s e r) s) j (wait_seen j s e (Ok r)) (cond b (report_of_answer s e r) nothing)
-reports-if true s e r j there inside h = performed-reports s e r j inside
-reports-if false s e r j there inside h = none-reports s e r j there h
+waits-if true s e r j there inside h = performed-waits s e r j inside
+waits-if false s e r j there inside h = nothing-waits s e r j there h
 
-reports-after : (s : Figures) (e : Event) (a : Result Reply Refusal) (j : ℕ)
+waits-after : (s : Figures) (e : Event) (a : Result Reply Refusal) (j : ℕ)
     → j < length s.tasks → IsShownWithin (length s.processors) (shown_by_answer e a)
     → ReportsWaited s (figures_after s e a) j (wait_seen j s e a) (change s e a)
-reports-after s e (Ok r) j inside h = reports-if (is_there s e) s e r j refl inside h
-reports-after s (EndWake processor now) (Err r) j inside h =
-    let t = nothing-reports s j nothing refl refl in
+waits-after s e (Ok r) j inside h = waits-if (is_there s e) s e r j refl inside h
+waits-after s (EndWake processor now) (Err r) j inside h =
+    let t = same-waits s j nothing refl refl in
     record { waiting_since = t.waiting_since; waited = t.waited }
-reports-after s e (Err r) j inside h =
-    let t = nothing-reports s j nothing refl refl in
+waits-after s e (Err r) j inside h =
+    let t = same-waits s j nothing refl refl in
     record { waiting_since = t.waiting_since; waited = t.waited }
 
 -- the figures' waits are those of the history
@@ -514,7 +514,7 @@ reported-of : (count : ℕ) (past : History) (m : AnsweredEvent) (j : ℕ)
     → ReportsWaited (figures count past) (figures count (m ∷ past)) j (wait_seen j (figures count past) m.event m.answer)
     (change (figures count past) m.event m.answer)
 reported-of count past m j h inside =
-    reports-after (figures count past) m.event m.answer j (omega (arith, tasks-figures count past h.1))
+    waits-after (figures count past) m.event m.answer j (omega (arith, tasks-figures count past h.1))
     (within-figures count past m h)
 
 -- figures show since when each task waits
