@@ -324,8 +324,8 @@ pub record ReportsWaited (s s' : Figures) (j : ℕ) (seen : Option ℕ) (c : Cha
 
 -- a time that is set on a condition is the one that the condition shows, or the one before
 then-is : (b : Bool) (at since : ℕ) → cond b at since ≡ unwrap_or (then_if b at) since
-then-is true at waiting_since = refl
-then-is false at waiting_since = refl
+then-is true at since = refl
+then-is false at since = refl
 
 -- a placement, and a switch after steps that keep waits, tell the waits that they make:
 placed-waits : (processor now : ℕ) (d : Decision) (id to : ℕ) (s : Figures) (j : ℕ) (c : Change)
@@ -377,10 +377,10 @@ tasks-taken processor at (Some id) s = tasks-comes id processor at (waited_there
 
 -- a time that is set on one condition, and then on another, is set on either
 or-is : (b c : Bool) (at since : ℕ) → cond c at (cond b at since) ≡ cond (b || c) at since
-or-is true true at waiting_since = refl
-or-is true false at waiting_since = refl
-or-is false true at waiting_since = refl
-or-is false false at waiting_since = refl
+or-is true true at since = refl
+or-is true false at since = refl
+or-is false true at since = refl
+or-is false false at since = refl
 
 -- a pull tells the waits that it makes: of the task it takes, and of those that give way and begin
 pulled-waits : (processor from now : ℕ) (d : Decision) (task run : Option ℕ) (s : Figures) (j : ℕ) (c : Change)
