@@ -41,7 +41,7 @@ pub fn source_lines(alloc: Global, file: &[u8]) -> Result<Vec<Option<SourceLine<
     let Some(table) = table_of(file) else {
         return Ok(lines);
     };
-    let marks = marks(alloc, &table)?;
+    let marks = find_marks(alloc, &table)?;
     let mut last = None;
     for mark in &marks {
         if let Some(record) = mark {
@@ -52,8 +52,8 @@ pub fn source_lines(alloc: Global, file: &[u8]) -> Result<Vec<Option<SourceLine<
     Ok(lines)
 }
 
-/// For each slot of the policy the number of the last record that begins there.
-fn marks(alloc: Global, table: &Table<'_>) -> Result<Vec<Option<u64>>, AllocError> {
+/// Finds for each slot of the policy the number of the last record that begins there.
+fn find_marks(alloc: Global, table: &Table<'_>) -> Result<Vec<Option<u64>>, AllocError> {
     let slots = (table.policy.long / 8).min(SLOTS);
     let mut marks = Vec::new(alloc);
     for _ in 0..slots {

@@ -1,8 +1,6 @@
 //! The function `policy` of an object file.
-ghost use Rattle.std.specs.Prelude.{◌≡◌, ◌↔◌, IsTrue, IfOk, IfErr};
-ghost use Rattle.bq_object.specs.Symbols.{IsFirstPolicy};
-ghost use Rattle.bq_object.specs.Objects.{HasHeaders, HasTables, IsCode, IsFunction, IsObject, IsPolicyOfObject};
-ghost use Rattle.bq_object.specs.Relocations.{AreClear};
+ghost use Rattle.std.specs.Prelude.{◌↔◌, IsTrue, IfOk, IfErr};
+ghost use Rattle.bq_object.specs.Objects.{HasTables, IsCode, IsFunction, IsObject, IsPolicyOfObject};
 ghost use Rattle.bq_object.specs.Faults.{IsCodeFault, IsFunctionFault, IsObjectFault, IsTableFault};
 
 use crate::fault::{ObjectFault, Piece};

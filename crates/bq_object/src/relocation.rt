@@ -1,12 +1,12 @@
 //! Relocations: the instructions that a linker completes.
 ghost use Rattle.std.specs.Prelude.{◌≡◌, ◌≤◌, ◌↔◌, ℕ, IsTrue, OnOk, IfErr};
-ghost use Rattle.bq_object.specs.declared.section.Section.{Section as Header};
+ghost use Rattle.bq_object.specs.declared.section.Section.{Section as SectionValue};
 ghost use Rattle.bq_object.specs.Sections.{IsSection};
 ghost use Rattle.bq_object.specs.Relocations.{AreClear, IsEntryFault, IsRelocation, IsRelocationFault, IsSectionClear, IsSectionFault, HoldsOffset, entry_size, filled};
 
 use crate::fault::{Filled, ObjectFault, Piece};
 use crate::numbers::{part, wide, word};
-use crate::section::{Section, section_at};
+use crate::section::{HEADER_LENGTH, Section, section_at};
 use crate::symbol::Symbol;
 
 /// The length of a relocation of a section of this kind; 0 if the kind has none.
@@ -25,7 +25,7 @@ pub fn check(file: &[u8], headers: &[u8], policy: Symbol) -> Result<(), ObjectFa
     ensures ok { OnOk result (AreClear file.now headers.now policy) }
     ensures err { IfErr result (IsRelocationFault file.now headers.now policy) }
 {
-    let count = headers.len() as u64 / 64;
+    let count = headers.len() as u64 / HEADER_LENGTH;
     for index in 0..count {
         check_at(file, headers, index, policy)?;
     }
@@ -34,7 +34,7 @@ pub fn check(file: &[u8], headers: &[u8], policy: Symbol) -> Result<(), ObjectFa
 
 /// Refuses the function for the first relocation within it that the section of that number has.
 fn check_at(file: &[u8], headers: &[u8], index: u64, policy: Symbol) -> Result<(), ObjectFault>
-    ensures ok { OnOk result ((section : Header) → IsSection headers.now index section → IsSectionClear file.now section policy) }
+    ensures ok { OnOk result ((section : SectionValue) → IsSection headers.now index section → IsSectionClear file.now section policy) }
     ensures err { IfErr result (IsRelocationFault file.now headers.now policy) }
 {
     match section_at(headers, index) {

@@ -1,6 +1,6 @@
 //! Sections by their headers.
 ghost use Rattle.std.specs.Prelude.{◌≡◌, ◌≢◌, ◌<◌, ◌+◌, ◌*◌, length, IfSome, IfNone};
-ghost use Rattle.bq_object.specs.declared.section.Section.{Section as Header};
+ghost use Rattle.bq_object.specs.declared.section.Section.{Section as SectionValue};
 ghost use Rattle.bq_object.specs.Numbers.{IsPart};
 ghost use Rattle.bq_object.specs.Sections.{HasNone, IsFirstOf, IsSection, section_of};
 
@@ -22,6 +22,9 @@ pub struct Section {
     /// Of relocations the section that they change.
     pub info: u32,
 }
+
+/// The length of a section header of ELF64 (System V ABI, "Object Files").
+pub(crate) const HEADER_LENGTH: u64 = 64;
 
 /// The kind of a section of symbols.
 pub const SYMBOLS: u32 = 2;
@@ -57,7 +60,7 @@ pub fn section_at(headers: &[u8], index: u64) -> Option<Section>
     ensures some { IfSome result (IsSection headers.now index) }
     ensures none { IfNone result (length headers.now < index * 64 + 64) }
 {
-    let header = part(headers, index.checked_mul(64)?, 64)?;
+    let header = part(headers, index.checked_mul(HEADER_LENGTH)?, HEADER_LENGTH)?;
     Some(Section::read(header))
 }
 
@@ -65,7 +68,7 @@ pub fn section_at(headers: &[u8], index: u64) -> Option<Section>
 #[tactic(auto, using(crate::proofs::SameLemmas::other_kind, crate::proofs::SameLemmas::no_section))]
 fn symbols_at(headers: &[u8], index: u64) -> Option<Section>
     ensures some { IfSome result (λ section. IsSection headers.now index section × (section.kind ≡ 2)) }
-    ensures none { IfNone result ((other : Header) → IsSection headers.now index other → other.kind ≢ 2) }
+    ensures none { IfNone result ((other : SectionValue) → IsSection headers.now index other → other.kind ≢ 2) }
 {
     let section = section_at(headers, index)?;
     if section.kind == SYMBOLS {
@@ -80,7 +83,7 @@ pub fn symbols_in(headers: &[u8]) -> Option<Section>
     ensures some { IfSome result (IsFirstOf 2 headers.now) }
     ensures none { IfNone result (HasNone 2 headers.now) }
 {
-    let count = headers.len() as u64 / 64;
+    let count = headers.len() as u64 / HEADER_LENGTH;
     for index in 0..count {
         if let Some(section) = symbols_at(headers, index) {
             return Some(section);

@@ -1,7 +1,8 @@
 //! Sections by their names.
 
-use crate::numbers::{half, word};
-use crate::section::{Section, section_at};
+use crate::header::{HEAD_LENGTH, NAMES};
+use crate::numbers::half;
+use crate::section::{HEADER_LENGTH, Section, section_at};
 use crate::symbol::name_at;
 
 /// The sections of a file, with their names.
@@ -15,10 +16,10 @@ pub struct Sections<'a> {
 impl<'a> Sections<'a> {
     /// The sections by these headers, if the file has their names.
     pub fn of(file: &'a [u8], headers: &'a [u8]) -> Option<Sections<'a>> {
-        if file.len() < 64 {
+        if file.len() < HEAD_LENGTH {
             return None;
         }
-        let names = section_at(headers, u64::from(half(file, 62)))?.contents(file)?;
+        let names = section_at(headers, u64::from(half(file, NAMES)))?.contents(file)?;
         Some(Sections {
             file,
             headers,
@@ -33,7 +34,7 @@ impl<'a> Sections<'a> {
 
     /// The bytes of the first section of that name.
     pub fn find(self, name: &[u8]) -> Option<&'a [u8]> {
-        for index in 0..self.headers.len() as u64 / 64 {
+        for index in 0..self.headers.len() as u64 / HEADER_LENGTH {
             let section = section_at(self.headers, index)?;
             if self.name(section) == name {
                 return section.contents(self.file);

@@ -1,6 +1,6 @@
 //! Symbols: what has a name in an object file.
 ghost use Rattle.std.specs.Prelude.{◌≡◌, ◌<◌, ◌+◌, ◌*◌, ◌↔◌, IsTrue, length, IfSome, IfNone};
-ghost use Rattle.bq_object.specs.declared.symbol.Symbol.{Symbol as Entry};
+ghost use Rattle.bq_object.specs.declared.symbol.Symbol.{Symbol as SymbolValue};
 ghost use Rattle.bq_object.specs.Symbols.{HasNoPolicy, IsFirstPolicy, IsPolicySymbol, IsSymbol, symbol_of};
 
 use crate::numbers::{half, part, wide, word};
@@ -64,7 +64,7 @@ pub fn symbol_at(entries: &[u8], index: u64) -> Option<Symbol>
 #[tactic(auto, using(crate::proofs::SameLemmas::other_symbol, crate::proofs::SameLemmas::no_symbol))]
 fn policy_at(entries: &[u8], names: &[u8], index: u64) -> Option<Symbol>
     ensures some { IfSome result (λ symbol. IsSymbol entries.now index symbol × IsPolicySymbol names.now symbol) }
-    ensures none { IfNone result ((other : Entry) → IsSymbol entries.now index other → IsPolicySymbol names.now other → ⊥) }
+    ensures none { IfNone result ((other : SymbolValue) → IsSymbol entries.now index other → IsPolicySymbol names.now other → ⊥) }
 {
     let symbol = symbol_at(entries, index)?;
     if symbol.is_policy(names) {
