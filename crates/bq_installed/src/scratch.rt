@@ -17,9 +17,9 @@ pub struct Scratch {
 
 impl Model for Scratch {
     ghost use Rattle.std.specs.Prelude.{List};
-    ghost use Rattle.bq_bpf.specs.declared.board.CounterCall.{CounterCall as Asked};
+    ghost use Rattle.bq_bpf.specs.declared.board.CounterCall.{CounterCall as CounterCallValue};
 
-    ghost Value = { List Asked };
+    ghost Value = { List CounterCallValue };
 
     ghost view = { λ s. s.calls.items };
 }

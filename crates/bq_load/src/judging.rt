@@ -2,7 +2,7 @@
 ghost use Rattle.std.specs.Prelude.{◌≡◌, ◌+◌, ◌-◌, ◌<◌, ◌≤◌, ◌^◌, ◌++◌, ℕ, List, length, take, IfOk, IfErr};
 ghost use Rattle.bq_load.specs.Feeding.{Holds, IsFinal, HasFailed};
 ghost use Rattle.bq_load.specs.Laws.{AreBytes};
-ghost use Rattle.bq_load.specs.declared.fault.LoadFault.{LoadFault as Fault};
+ghost use Rattle.bq_load.specs.declared.fault.LoadFault.{LoadFault as LoadFaultValue};
 
 use crate::fault::LoadFault;
 use crate::header::read_header;
@@ -17,7 +17,7 @@ pub fn judge(held: &[u8], past: usize, piece: &[u8]) -> Result<usize, LoadFault>
     ensures bounded { IfOk result (λ kept. length held.now ≤ 32812 → length held.now + kept ≤ 32812) }
     ensures stands { IfOk result (λ kept. (bytes : List ℕ) → Holds held.now past bytes
         → Holds (held.now ++ take kept piece.now) (past + (length piece.now - kept)) (bytes ++ piece.now)) }
-    ensures going { IfOk result (λ _. (bytes : List ℕ) (fault : Fault) → Holds held.now past bytes → AreBytes (bytes ++ piece.now)
+    ensures going { IfOk result (λ _. (bytes : List ℕ) (fault : LoadFaultValue) → Holds held.now past bytes → AreBytes (bytes ++ piece.now)
         → HasFailed (bytes ++ piece.now) fault → ⊥) }
     ensures stays { IfErr result IsFinal }
     ensures failed { IfErr result (λ fault. (bytes : List ℕ) → Holds held.now past bytes → HasFailed (bytes ++ piece.now) fault) }

@@ -5,7 +5,7 @@ ghost use Rattle.bq_load.specs.Faults.{IsLoadFault};
 ghost use Rattle.bq_load.specs.Feeding.{Holds, HasFailed, StandsFor, FeedsPiece, unfed};
 ghost use Rattle.bq_load.specs.Laws.{AreBytes};
 ghost use Rattle.bq_load.specs.Straight.{HasStraightProgram};
-ghost use Rattle.bq_load.specs.declared.fault.LoadFault.{LoadFault as Fault};
+ghost use Rattle.bq_load.specs.declared.fault.LoadFault.{LoadFault as LoadFaultValue};
 ghost use Rattle.bq_load.specs.declared.fault.LoadFault.TheVariants.{OutOfMemory};
 
 use crate::fault::LoadFault;
@@ -71,9 +71,9 @@ impl ImageReader {
     pub fn feed(&mut self, piece: &[u8]) -> Result<(), LoadFault>
         ensures ok { OnOk result ((self.new.failed ≡ None) × FeedsPiece self.old piece.now self.new) }
         ensures failed { IfErr result (λ fault. fault ≢ OutOfMemory → (self.new.failed ≡ Some fault) × FeedsPiece self.old piece.now self.new) }
-        ensures exact { (bytes : List ℕ) (fault : Fault) → StandsFor self.old bytes → AreBytes (bytes ++ piece.now)
+        ensures exact { (bytes : List ℕ) (fault : LoadFaultValue) → StandsFor self.old bytes → AreBytes (bytes ++ piece.now)
             → HasFailed (bytes ++ piece.now) fault → result ≡ Err fault }
-        ensures sticky { (fault : Fault) → self.old.failed ≡ Some fault → (result ≡ Err fault) × (self.new ≡ self.old) }
+        ensures sticky { (fault : LoadFaultValue) → self.old.failed ≡ Some fault → (result ≡ Err fault) × (self.new ≡ self.old) }
         ensures memory { result ≡ Err OutOfMemory → self.new ≡ self.old }
         ensures bounded { length self.new.held ≤ 32812 }
     {

@@ -1,6 +1,6 @@
 //! The shapes of maps as a text.
 ghost use Rattle.std.specs.Prelude.{◌≡◌, ◌∷◌, IfOk, IfSome, IfNone, MatchOption};
-ghost use Rattle.bq_bpf.specs.declared.shape.MapShape.{MapShape as Shape};
+ghost use Rattle.bq_bpf.specs.declared.shape.MapShape.{MapShape as MapShapeValue};
 ghost use Rattle.bq_words.specs.Words.{parts};
 ghost use Rattle.bq_policy_file.specs.ShapesText.{IsPartLen, NamesNoShapes, NamesShapes, shape_number, numbers_in, numbers_of, parts_after};
 
@@ -40,7 +40,7 @@ pub fn shapes_of(alloc: Global, text: &[u8]) -> Result<Option<Vec<MapShape>>, Al
 /// The shape that the text names by two numbers and a colon between them.
 fn shape_of(text: &[u8]) -> Option<MapShape>
     ensures some { IfSome result (λ shape. numbers_in text.now ≡ numbers_of shape) }
-    ensures none { IfNone result ((shape : Shape) → numbers_in text.now ≡ numbers_of shape → ⊥) }
+    ensures none { IfNone result ((shape : MapShapeValue) → numbers_in text.now ≡ numbers_of shape → ⊥) }
 {
     let (size, after) = cut(text, b':');
     let (entries, after) = cut(after?, b':');

@@ -5,7 +5,7 @@ ghost use Rattle.bq_bpf.specs.Meaning.{word_of};
 ghost use Rattle.bq_insn.specs.declared.Insn.{Insn};
 ghost use Rattle.bq_transfer.specs.Obligations.{IsAccess, IsUnknownAt, MayBeUnproven, ReadsOperand};
 ghost use Rattle.bq_transfer.specs.Ready.{IsLocation, IsPlacedAt};
-ghost use Rattle.bq_states.specs.declared.abstract_state.ValueKind.{ValueKind as Base};
+ghost use Rattle.bq_states.specs.declared.abstract_state.ValueKind.{ValueKind as ValueKindValue};
 ghost use Rattle.bq_transfer.specs.Transfers.{FindsPlace};
 
 use crate::obligation::Obligation;
@@ -44,7 +44,7 @@ pub fn locate(
     ensures finds { IfOk result (λ p. FindsPlace shapes.now context state.now access.base access.off access.size p.kind p.at) }
     ensures obligations { IfErr result (λ obligation. (insn : Insn) → IsAccess insn → ReadsOperand insn → MayBeUnproven obligation insn) }
     ensures unset { IfErr result (λ obligation. obligation ≡ Obligation.Unset ↔ IsUnknownAt state.now access.base) }
-    ensures accepts { (kind : Base) (place : ℕ) → IsPlacedAt shapes.now context state.now access kind place → IsOk result }
+    ensures accepts { (kind : ValueKindValue) (place : ℕ) → IsPlacedAt shapes.now context state.now access kind place → IsOk result }
     ensures there { IfOk result (IsLocation shapes.now context state.now access) }
 {
     let Some(base) = known(state, access.base) else {

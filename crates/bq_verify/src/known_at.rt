@@ -28,9 +28,9 @@ pub struct KnownStates {
 
 impl Model for KnownStates {
     ghost use Rattle.std.specs.Prelude.{List, Option};
-    ghost use Rattle.bq_states.specs.declared.abstract_state.AbstractState.{AbstractState as Knowledge};
+    ghost use Rattle.bq_states.specs.declared.abstract_state.AbstractState.{AbstractState as AbstractStateValue};
 
-    ghost Value = { List (Option Knowledge) };
+    ghost Value = { List (Option AbstractStateValue) };
 
     ghost view = { λ known. known.states.items };
 }

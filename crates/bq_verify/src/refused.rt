@@ -4,7 +4,7 @@ ghost use Rattle.std.specs.Prelude.{◌≡◌, Some};
 ghost use Rattle.bq_insn.specs.declared.Insn.{Insn};
 ghost use Rattle.bq_bpf.specs.Steps.{instruction_at};
 ghost use Rattle.bq_verify.specs.Stops.{IsWantOfMemory, MayStop};
-ghost use Rattle.bq_transfer.specs.declared.obligation.Obligation.{Obligation as Missing};
+ghost use Rattle.bq_transfer.specs.declared.obligation.Obligation.{Obligation as ObligationValue};
 ghost use Rattle.bq_verify.specs.declared.refused.Refused.TheVariants.{At};
 ghost use Rattle.bq_verify.specs.Refusals.{IsOutOfMemory, IsStopped};
 ghost use Rattle.bq_verify.specs.Subjects.{subject_of_view};
@@ -36,7 +36,7 @@ impl From<AllocError> for Refused {
 /// The refusal of a program over which the pass stopped at a slot.
 pub(crate) fn refuse(subject: &SubjectView, slot: usize, stop: PassStop) -> Refused
     ensures stopped { (insn : Insn) → instruction_at subject.now.slots.now slot ≡ Some insn → MayStop stop insn → IsStopped (subject_of_view subject.now) result }
-    ensures named { (obligation : Missing) → stop ≡ PassStop.Unproven obligation → result ≡ At slot (Cause.State obligation) }
+    ensures named { (obligation : ObligationValue) → stop ≡ PassStop.Unproven obligation → result ≡ At slot (Cause.State obligation) }
     ensures memory { IsWantOfMemory stop → IsOutOfMemory result }
 {
     match stop {
