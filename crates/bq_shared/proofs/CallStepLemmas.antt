@@ -36,11 +36,11 @@ use Rattle.bq_shared.proofs.LoadLemmas.{loads_set, loads_same, loads_moved, load
 use Rattle.bq_shared.proofs.ShapeLemmas.{MayCommitHere, moves_none, moves_lobby, moves_cpu, moves_cpu_lobby, moves_cpu_inbox}
 
 -- each task counts once
-abbrev pub one_each : ℕ → ℕ → ℕ
-one_each i mask = 1
+abbrev pub one_for_each : ℕ → ℕ → ℕ
+one_for_each i mask = 1
 
 -- the length of a list of tasks is a tally in which each counts once
-pub length_is : (xs : List Task) → length xs ≡ tally one_each xs
+pub length_is : (xs : List Task) → length xs ≡ tally one_for_each xs
 length_is [] = refl
 length_is (x ∷ xs) = omega (arith, length_is xs)
 
@@ -51,13 +51,13 @@ decided_size s p settled =
       arith,
       length_is (present_at (decided_by s p settled).running),
       length_is (present_at p.running),
-      tally-decided one_each s.discipline p.running p.running.current (settled.choice == 1) refl,
+      tally-decided one_for_each s.discipline p.running p.running.current (settled.choice == 1) refl,
     )
 
 -- time changes no size
 pub time_size : (d : Discipline) (now : ℕ) (p : Processor) → size_of (after_time d now p) ≡ size_of p
 time_size d now p =
-    omega (arith, length_is (present_at (charge d p.running now)), length_is (present_at p.running), tally-charge one_each d p.running now)
+    omega (arith, length_is (present_at (charge d p.running now)), length_is (present_at p.running), tally-charge one_for_each d p.running now)
 
 -- the beginning of a wake changes no size
 begin_size : (id : ℕ) (loads : List ℕ) (p : Processor) (l : List LobbyEntry) (r : Result Reply Refusal) (q : Processor)
@@ -143,7 +143,7 @@ module _ (d : Discipline) (n : ℕ) where
         length_is (present_at (enter_all d a.running xs)),
         length_is (present_at a.running),
         length_is xs,
-        tally-enter_all one_each d a.running xs,
+        tally-enter_all one_for_each d a.running xs,
       )
 
   -- so may a drain, after which the journal counts the tasks that entered
@@ -172,7 +172,7 @@ module _ (d : Discipline) (n : ℕ) where
         time_size d now p,
         length_is (present_at (record a { running = after_leaving d a.running }).running),
         length_is (present_at a.running),
-        tally-after_leaving one_each d a.running b.0 b.1.0,
+        tally-after_leaving one_for_each d a.running b.0 b.1.0,
       )
 
   -- after a block the journal keeps the state of the new world, whether the block is refused or not

@@ -31,7 +31,7 @@ use Rattle.bq_shared.specs.declared.journal_state.JournalState.{JournalState}
 use Rattle.bq_shared.specs.Parts.{cpu_part, journal_state_of, one_less, kept_by_pull}
 use Rattle.bq_shared.proofs.ReachedLemmas.{IsSound}
 use Rattle.bq_shared.proofs.ShapeLemmas.{MayCommitHere, moves_two_cpus}
-use Rattle.bq_shared.proofs.CallStepLemmas.{one_each, length_is, time_size, kept_same, kept_less, kept_more}
+use Rattle.bq_shared.proofs.CallStepLemmas.{one_for_each, length_is, time_size, kept_same, kept_less, kept_more}
 
 -- the puller has one more, if a task is taken
 puller_size : (d : Discipline) (now : ℕ) (p o : Processor) (task : Option ℕ) (hooks : HooksFacts)
@@ -47,7 +47,7 @@ puller_size d now p o task hooks =
       length_is (present_at (started_if_idle d (with_pulled d c.running taken) c.running.current)),
       length_is (present_at c.running),
       length_is (option_to_list taken),
-      tally-pulled one_each d c.running taken,
+      tally-pulled one_for_each d c.running taken,
       time_size d now p,
     )
 
@@ -63,7 +63,7 @@ source_size d o task =
       length_is (present_at (without_task s.running task)),
       length_is (present_at s.running),
       length_is (option_to_list (taken_from s.running task)),
-      tally-without_task one_each s.running task,
+      tally-without_task one_for_each s.running task,
       same,
     )
 
