@@ -1,5 +1,5 @@
 -- The weights at each processor, and what a task that leaves one keeps of its fair time.
-use Rattle.std.proofs.Common.{◌≡◌, ◌≢◌, ℕ, ◌+◌, ◌-◌, ◌*◌, ◌<◌, ◌≤◌, max, Bool, true, false, List, [], ◌∷◌, length, get_or, Option, Some, None, refl, sym, ap, ◌∙◌, ◌⊎◌, inl, inr, eqb, leb, cond, zero, suc, get_or-set_same, get_or-set_other, arith, eq-eqb}
+use Rattle.std.proofs.Common.{◌≡◌, ◌≢◌, ℕ, ◌+◌, ◌-◌, ◌*◌, ◌^◌, ◌<◌, ◌≤◌, max, Bool, true, false, List, [], ◌∷◌, length, get_or, Option, Some, None, refl, sym, ap, ◌∙◌, ◌⊎◌, inl, inr, eqb, leb, cond, zero, suc, get_or-set_same, get_or-set_other, arith, eq-eqb}
 use Rattle.std.specs.Prelude.{slice_set, ℤ, pos, negsuc}
 use Rattle.std.proofs.lemmas.Bool.Decides.{eqb_tells, leb_tells}
 use Rattle.std.proofs.lemmas.List.{get_or_past, length-set}
@@ -210,7 +210,7 @@ left-one s id processor p t' h at shared weight nowhere same accrued =
 
 -- so does one that leaves its processor, if it has one
 left-if : (s : Figures) (id : ℕ) (o : Option ℕ) → PurseLemmas.IsSound s → (task_in_figures s id).processor ≡ o
-    → PurseLemmas.uncapped s id ≤ 340282366920938463463374607431768211455
+    → PurseLemmas.uncapped s id ≤ 2 ^ 128 - 1
     → Leaves id s (left_from id s o)
 left-if s id None h at small = record { sound = h; raws = λ j. refl; nowhere = at }
 left-if s id (Some processor) h at small =
@@ -223,7 +223,7 @@ left-if s id (Some processor) h at small =
 
 -- a task that leaves is nowhere, all stays sound, and each has what it had, where what it has fits in 128 bits
 pub leaves-stays : (s : Figures) (id : ℕ) → PurseLemmas.IsSound s
-    → PurseLemmas.uncapped s id ≤ 340282366920938463463374607431768211455
+    → PurseLemmas.uncapped s id ≤ 2 ^ 128 - 1
     → Leaves id s (figures_left id s)
 leaves-stays s id h small = left-if s id (task_in_figures s id).processor h refl small
 

@@ -1,11 +1,12 @@
 -- The times of tasks and processors are the sums of their slices.
-use Rattle.std.proofs.Common.{◌≡◌, ◌≢◌, ℕ, ◌+◌, ◌-◌, ◌<◌, ◌≤◌, Bool, true, false, List, [], ◌∷◌, ◌++◌, length, get_or, Option, Some, None, refl, sym, ap, ◌∙◌, ◌⊎◌, inl, inr, get_or-set_same, get_or-set_other, eqb, ltb, cond, append-nil, suc, arith}
+use Rattle.std.proofs.Common.{◌≡◌, ◌≢◌, ℕ, ◌+◌, ◌-◌, ◌*◌, ◌^◌, ◌<◌, ◌≤◌, Bool, true, false, List, [], ◌∷◌, ◌++◌, length, get_or, Option, Some, None, refl, sym, ap, ◌∙◌, ◌⊎◌, inl, inr, get_or-set_same, get_or-set_other, eqb, ltb, cond, append-nil, suc, arith}
 use Rattle.std.specs.Prelude.{slice_set, option_to_list, All}
 use Rattle.std.specs.List.{sum_by}
 use Rattle.std.proofs.lemmas.Bool.Decides.{eqb_tells}
 use Rattle.std.proofs.lemmas.List.{get_or-replicate, length-replicate}
 use Rattle.std.proofs.lemmas.List.Elements.{All-from_get_or}
 use Rattle.std.proofs.lemmas.List.Sums.{sum_by-cons, sum_by_push, sum_by-set, sum_by-le}
+use Rattle.bq_disc.specs.declared.clock.TheConstants.{LATEST}
 use Rattle.bq_disc.specs.OneProcessor.{reading}
 use Rattle.bq_schedule.specs.declared.slice.Slice.{Slice}
 use Rattle.bq_schedule.specs.declared.change.Start.{Start}
@@ -122,30 +123,34 @@ slices-le-clocks count (m ∷ past) h =
       ap (time_of any) (shown-seen count past o h.1 h.0),
     )
 
--- each clock stays below 2^48, by a reading, by an answered event, and in each history:
-short_if : (b : Bool) (last now : ℕ) → last ≤ 281474976710655 → cond b (reading last now) last ≤ 281474976710655
+-- each clock is at most the latest reading, by a reading, by an answered event, and in each history:
+short_if : (b : Bool) (last now : ℕ) → last ≤ LATEST → cond b (reading last now) last ≤ LATEST
 short_if true last now h = omega arith
 short_if false last now h = h
 
-short_after : (processor last : ℕ) (o : Option ShownByAnswer) → last ≤ 281474976710655 → clock_after processor last o ≤ 281474976710655
+short_after : (processor last : ℕ) (o : Option ShownByAnswer) → last ≤ LATEST → clock_after processor last o ≤ LATEST
 short_after processor last None h = h
 short_after processor last (Some x) h = short_if (eqb x.processor processor) last x.now h
 
-clock-is-short : (processor : ℕ) (past : History) → clock processor past ≤ 281474976710655
+clock-is-short : (processor : ℕ) (past : History) → clock processor past ≤ LATEST
 clock-is-short processor [] = omega arith
 clock-is-short processor (m ∷ past) =
     short_after processor (clock processor past) (shown_by_answer m.event m.answer) (clock-is-short processor past)
 
--- all clocks together stay below 2^64
+-- the greatest sum of the clocks of 255 processors, in nanoseconds: below 2^56
+abbrev pub most_of_clocks : ℕ
+most_of_clocks = 255 * LATEST
+
+-- all clocks together stay within that sum
 pub clocks-are-short : (count : ℕ) (past : History) → count ≤ 255 → IsOfProcessors count past
-    → clocks_of (figures count past) ≤ 71776119061217025
+    → clocks_of (figures count past) ≤ most_of_clocks
 clocks-are-short count past few h =
     let s = figures count past in
-    let all : All (λ (p : ProcessorFigures). last_of p ≤ 281474976710655) s.processors =
-    All-from_get_or (λ (p : ProcessorFigures). last_of p ≤ 281474976710655) s.processors unread (λ i inside.
+    let all : All (λ (p : ProcessorFigures). last_of p ≤ LATEST) s.processors =
+    All-from_get_or (λ (p : ProcessorFigures). last_of p ≤ LATEST) s.processors unread (λ i inside.
     let i' : i < count = omega (arith, count-figures count past h) in
     omega (arith, (figures-clocks count past i h i').0, clock-is-short i past)) in
-    omega (arith, count-figures count past h, sum_by-le last_of 281474976710655 s.processors all)
+    omega (arith, count-figures count past h, sum_by-le last_of LATEST s.processors all)
 
 -- the time of a task rises by the slices that are of it
 task-charged : (s : Figures) (x : Slice) (id : ℕ) (b : Bool) → id < length s.tasks
@@ -162,14 +167,14 @@ task-charged s x id false inside (inr other) =
     (get_or-set_other s.tasks x.task id (task_charged (task_in_figures s x.task) (x.to - x.from)) unknown (λ e. other.1 (sym e)))
 
 -- a sum that fits in 64 bits is counted in full
-saturating_sum-is : (b : Bool) (n more : ℕ) → n + cond b more 0 ≤ 18446744073709551615
+saturating_sum-is : (b : Bool) (n more : ℕ) → n + cond b more 0 ≤ 2 ^ 64 - 1
     → cond b (saturating_sum n more) n ≡ n + cond b more 0
 saturating_sum-is true n more h = omega arith
 saturating_sum-is false n more h = omega arith
 
 -- a charge adds a slice to the time of its task, and of no other, if the time fits in 64 bits
 time-charged : (s : Figures) (o : Option Slice) (id : ℕ) → id < length s.tasks
-    → (task_in_figures s id).time + time_of (is_of id) o ≤ 18446744073709551615
+    → (task_in_figures s id).time + time_of (is_of id) o ≤ 2 ^ 64 - 1
     → (task_in_figures (with_charged s o) id).time ≡ (task_in_figures s id).time + time_of (is_of id) o
 time-charged s None id inside fits = omega arith
 time-charged s (Some x) id inside fits =
@@ -178,7 +183,7 @@ time-charged s (Some x) id inside fits =
 
 -- an answered event adds its slice to the time of its task, and of no other, if the time fits in 64 bits
 time-shown : (s s' : Figures) (o : Option ShownByAnswer) (id : ℕ) → id < length s.tasks
-    → (task_in_figures s id).time + time_of (is_of id) (slice_seen s o) ≤ 18446744073709551615 → Shows s s' o
+    → (task_in_figures s id).time + time_of (is_of id) (slice_seen s o) ≤ 2 ^ 64 - 1 → Shows s s' o
     → (task_in_figures s' id).time ≡ (task_in_figures s id).time + time_of (is_of id) (slice_seen s o)
 time-shown s s' None id inside fits h = omega (arith, h.0.times id)
 time-shown s s' (Some x) id inside fits h =
@@ -200,7 +205,7 @@ tasks-figures count (m ∷ past) h =
 
 -- any part of the slices fits in 64 bits, with the next slice
 fits-next : (chosen : Slice → Bool) (count : ℕ) (past : History) (m : AnsweredEvent) → count ≤ 255 → IsOfProcessors count (m ∷ past) →
-    time_in chosen (slices past) + time_of chosen (slice_shown past (shown_by_answer m.event m.answer)) ≤ 18446744073709551615
+    time_in chosen (slices past) + time_of chosen (slice_shown past (shown_by_answer m.event m.answer)) ≤ 2 ^ 64 - 1
 fits-next chosen count past m few h =
     omega (
       arith,
@@ -220,7 +225,7 @@ time_is_sum_of_slices count (m ∷ past) few h id inside =
     let before = time_is_sum_of_slices count past few h.1 id inside in
     let seen = ap (time_of (is_of id)) (shown-seen count past o h.1 h.0) in
     let inside' : id < length s.tasks = omega (arith, tasks-figures count past h.1) in
-    let fits : (task_in_figures s id).time + time_of (is_of id) (slice_seen s o) ≤ 18446744073709551615 =
+    let fits : (task_in_figures s id).time + time_of (is_of id) (slice_seen s o) ≤ 2 ^ 64 - 1 =
     omega (arith, before, seen, fits-next (is_of id) count past m few h) in
     omega (
       arith,
@@ -261,14 +266,14 @@ worth-at processor j from to (Some start) = worth-some processor j from to start
 
 -- an answered event adds its slice to the busy time of its processor, and of no other, if the time fits in 64 bits
 busy-shown : (s s' : Figures) (o : Option ShownByAnswer) (j : ℕ) → j < length s.processors
-    → (processor_in_figures s j).busy + time_of (is_slice_at j) (slice_seen s o) ≤ 18446744073709551615 → Shows s s' o
+    → (processor_in_figures s j).busy + time_of (is_slice_at j) (slice_seen s o) ≤ 2 ^ 64 - 1 → Shows s s' o
     → (processor_in_figures s' j).busy ≡ (processor_in_figures s j).busy + time_of (is_slice_at j) (slice_seen s o)
 busy-shown s s' None j inside fits h = ap (λ (w : Works). w.busy) (h.0.at j) ∙ omega arith
 busy-shown s s' (Some x) j inside fits h =
     let p = processor_in_figures s x.processor in
     let at = worth-at x.processor j p.last (reading p.last x.now) p.running in
     let fits' : (processor_in_figures s j).busy + cond (eqb x.processor j) (slice_length (slice_at x.processor p x.now)) 0
-    ≤ 18446744073709551615 = omega (arith, at, fits) in
+    ≤ 2 ^ 64 - 1 = omega (arith, at, fits) in
     ap (λ (w : Works). w.busy) (h.0.at j)
     ∙ ap (λ (q : ProcessorFigures). q.busy) (processor-read_at x.processor x.now j s inside)
     ∙ busy-read_at x.processor x.now j s (eqb x.processor j) inside (eqb_tells x.processor j)
@@ -287,7 +292,7 @@ busy_is_sum_of_slices count (m ∷ past) few h processor inside =
     let before = busy_is_sum_of_slices count past few h.1 processor inside in
     let seen = ap (time_of (is_slice_at processor)) (shown-seen count past o h.1 h.0) in
     let inside' : processor < length s.processors = omega (arith, count-figures count past h.1) in
-    let fits : (processor_in_figures s processor).busy + time_of (is_slice_at processor) (slice_seen s o) ≤ 18446744073709551615 =
+    let fits : (processor_in_figures s processor).busy + time_of (is_slice_at processor) (slice_seen s o) ≤ 2 ^ 64 - 1 =
     omega (arith, before, seen, fits-next (is_slice_at processor) count past m few h) in
     omega (
       arith,

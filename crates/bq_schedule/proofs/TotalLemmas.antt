@@ -1,5 +1,5 @@
 -- Fair times rise by what readings give, and with what is left over they add up to the time in which tasks ran.
-use Rattle.std.proofs.Common.{◌≡◌, ◌≢◌, ℕ, ◌+◌, ◌-◌, ◌*◌, ◌<◌, ◌≤◌, Bool, true, false, List, [], ◌∷◌, length, get_or, Option, Some, None, Result, Ok, Err, refl, sym, ap, ◌∙◌, subst, ◌⊎◌, inl, inr, eqb, leb, cond, zero, suc, replicate, get_or-set_same, get_or-set_other, arith}
+use Rattle.std.proofs.Common.{◌≡◌, ◌≢◌, ℕ, ◌+◌, ◌-◌, ◌*◌, ◌^◌, ◌<◌, ◌≤◌, Bool, true, false, List, [], ◌∷◌, length, get_or, Option, Some, None, Result, Ok, Err, refl, sym, ap, ◌∙◌, subst, ◌⊎◌, inl, inr, eqb, leb, cond, zero, suc, replicate, get_or-set_same, get_or-set_other, arith}
 use Rattle.std.specs.Prelude.{slice_set, ℤ}
 use Rattle.std.specs.List.{sum_by}
 use Rattle.std.proofs.Math.Nat.{div-le_self, mul-div-le}
@@ -30,7 +30,7 @@ use Rattle.bq_schedule.specs.FairTimes.{weight_there, weights_at, share, all_fai
 use Rattle.bq_schedule.specs.Laws.{IsShownWithin, IsOfProcessors, SharesOut, AddsUpFairTimes}
 use Rattle.bq_schedule.proofs.FrameLemmas.{Works, KeepsWorks, works-id, works-then, processor_kept, task_kept, works-with_processor, works-with_task, works-counted, works-leaves, works-comes, works-switched, processors-read_at, count-read_at, tasks-read_at}
 use Rattle.bq_schedule.proofs.ClockLemmas.{count-figures, within-figures, shown_by_reply-none}
-use Rattle.bq_schedule.proofs.SumLemmas.{clocks-are-short}
+use Rattle.bq_schedule.proofs.SumLemmas.{most_of_clocks, clocks-are-short}
 use Rattle.bq_schedule.proofs.WindowLemmas.{figures_are_filled, IsFilled}
 use Rattle.bq_schedule.proofs.PurseLemmas
 use Rattle.bq_schedule.proofs.LeavingLemmas as Leaving
@@ -46,9 +46,9 @@ pub record IsFull (s : Figures) : Type 0 where
   pub total : all_raw s + all_unshared s ≡ parts_per_nanosecond * all_busy s
   pub ahead : (j : ℕ) → PurseLemmas.shared_at s j ≤ parts_per_nanosecond * (processor_in_figures s j).busy
 
--- all busy times stay below 2^56
+-- all busy times together stay within the greatest sum of clocks
 abbrev pub IsShort : Figures → Type 0
-IsShort s = all_busy s ≤ 71776119061217025
+IsShort s = all_busy s ≤ most_of_clocks
 
 -- what keeps the works keeps the sum of all busy times, and of what was left over:
 busy-kept : (s s' : Figures) → KeepsWorks s s' → all_busy s' ≡ all_busy s
@@ -78,19 +78,19 @@ full-kept s s' f k m = record {
 -- what a task has is little
 small_by : (s : Figures) (id : ℕ) (b : Bool) → IsFull s → IsShort s
     → ((b ≡ true) × (length s.tasks ≤ id)) ⊎ ((b ≡ false) × (id < length s.tasks))
-    → PurseLemmas.uncapped s id ≤ 340282366920938463463374607431768211455
+    → PurseLemmas.uncapped s id ≤ 2 ^ 128 - 1
 small_by s id b f short (inl past) =
     omega (arith, ap (λ (t : TaskFigures). PurseLemmas.uncapped_of s t) (get_or_past s.tasks id unknown past.1))
 small_by s id b f short (inr inside) =
     omega (arith, f.total, short, get_or-le-sum_by (PurseLemmas.uncapped_of s) s.tasks id unknown inside.1)
 
 -- what any task has fits in 128 bits, if all busy times are short
-small : (s : Figures) (id : ℕ) → IsFull s → IsShort s → PurseLemmas.uncapped s id ≤ 340282366920938463463374607431768211455
+small : (s : Figures) (id : ℕ) → IsFull s → IsShort s → PurseLemmas.uncapped s id ≤ 2 ^ 128 - 1
 small s id f short = small_by s id (leb (length s.tasks) id) f short (leb_tells (length s.tasks) id)
 
 -- where what a task has is little, its fair time is what it has
 fair-raw_if : (s : Figures) (t : TaskFigures) (o : Option ℕ)
-    → PurseLemmas.worth_at (PurseLemmas.shared_at s) (PurseLemmas.purse t) o ≤ 340282366920938463463374607431768211455
+    → PurseLemmas.worth_at (PurseLemmas.shared_at s) (PurseLemmas.purse t) o ≤ 2 ^ 128 - 1
     → fair_at s t o ≡ PurseLemmas.worth_at (PurseLemmas.shared_at s) (PurseLemmas.purse t) o
 fair-raw_if s t None h = refl
 fair-raw_if s t (Some processor) h = omega (arith, h)
@@ -269,7 +269,7 @@ given processor now s = parts_per_weight (slice_length (slice_at processor (proc
 
 -- a reading gives its part to each unit of weight at its processor, and nothing elsewhere, if the sum fits in 128 bits:
 shared-read : (processor now j : ℕ) (s : Figures) (b : Bool) → processor < length s.processors
-    → PurseLemmas.shared_at s processor + given processor now s ≤ 340282366920938463463374607431768211455
+    → PurseLemmas.shared_at s processor + given processor now s ≤ 2 ^ 128 - 1
     → ((b ≡ true) × (processor ≡ j)) ⊎ ((b ≡ false) × (processor ≢ j))
     → (get_or (slice_set s.processors processor (processor_read processor (processor_in_figures s processor) now)) j unread).shared
     ≡ PurseLemmas.shared_at s j + cond b (given processor now s) 0
@@ -287,7 +287,7 @@ shared-read processor now j s false inside fits (inr e) =
     ∙ omega arith
 
 shared-read_at : (processor now j : ℕ) (s : Figures) → processor < length s.processors
-    → PurseLemmas.shared_at s processor + given processor now s ≤ 340282366920938463463374607431768211455
+    → PurseLemmas.shared_at s processor + given processor now s ≤ 2 ^ 128 - 1
     → PurseLemmas.shared_at (figures_read processor now s) j ≡ PurseLemmas.shared_at s j + cond (eqb processor j) (given processor now s) 0
 shared-read_at processor now j s inside fits =
     ap (λ l. (get_or l j unread).shared) (processors-read_at processor now s)
@@ -321,7 +321,7 @@ worth-more f g processor part u (Some k) e h =
 
 -- a reading adds to what a task has its weight there times the part of each unit, if that part's sum fits
 raw-read_at : (processor now id : ℕ) (s : Figures) → PurseLemmas.IsSound s → processor < length s.processors
-    → PurseLemmas.shared_at s processor + given processor now s ≤ 340282366920938463463374607431768211455
+    → PurseLemmas.shared_at s processor + given processor now s ≤ 2 ^ 128 - 1
     → PurseLemmas.uncapped (figures_read processor now s) id
     ≡ PurseLemmas.uncapped s id + weight_there processor (task_in_figures s id) * given processor now s
 raw-read_at processor now id s h inside fits =
@@ -345,7 +345,7 @@ sums_both f g n (x ∷ xs) =
 
 -- a reading leaves all sound, if what its processor has given fits in 128 bits
 sound-read_at : (processor now : ℕ) (s : Figures) → PurseLemmas.IsSound s → processor < length s.processors
-    → PurseLemmas.shared_at s processor + given processor now s ≤ 340282366920938463463374607431768211455
+    → PurseLemmas.shared_at s processor + given processor now s ≤ 2 ^ 128 - 1
     → PurseLemmas.IsSound (figures_read processor now s)
 sound-read_at processor now s h inside fits =
     let r = figures_read processor now s in
@@ -428,7 +428,7 @@ read_at-full processor now s f inside short =
     let busy : q.busy ≡ p.busy + time = omega (arith, short, busies, is-busy, part-of-all) in
     let little : part ≤ time * parts_per_nanosecond = div-le_self (time * parts_per_nanosecond) p.weight in
     let shares : p.weight * part ≤ time * parts_per_nanosecond = mul-div-le (time * parts_per_nanosecond) p.weight in
-    let fits : PurseLemmas.shared_at s processor + part ≤ 340282366920938463463374607431768211455 =
+    let fits : PurseLemmas.shared_at s processor + part ≤ 2 ^ 128 - 1 =
     omega (arith, f.ahead processor, little, busy, short, busies, is-busy, part-of-all) in
     let unshared : q.unshared ≡ p.unshared + (time * parts_per_nanosecond - p.weight * part) =
     omega (arith, part-of-rest, f.total, short, busies, is-busy, part-of-all, busy) in

@@ -1,5 +1,5 @@
 -- How long tasks wait, as pulls and starts tell it, is what the history says.
-use Rattle.std.proofs.Common.{◌≡◌, ◌≢◌, ℕ, ◌+◌, ◌-◌, ◌<◌, ◌≤◌, Bool, true, false, not, [], ◌∷◌, length, get_or, Option, Some, None, Result, Ok, Err, refl, sym, ap, ◌∙◌, ◌⊎◌, inl, inr, eqb, cond, get_or-set_same, get_or-set_other, subst, zero-add, arith}
+use Rattle.std.proofs.Common.{◌≡◌, ◌≢◌, ℕ, ◌+◌, ◌-◌, ◌^◌, ◌<◌, ◌≤◌, Bool, true, false, not, [], ◌∷◌, length, get_or, Option, Some, None, Result, Ok, Err, refl, sym, ap, ◌∙◌, ◌⊎◌, inl, inr, eqb, cond, get_or-set_same, get_or-set_other, subst, zero-add, arith}
 use Rattle.std.specs.Prelude.{slice_set, ◌&&◌, ◌||◌, unwrap_or}
 use Rattle.std.specs.Option.{option_map}
 use Rattle.std.proofs.lemmas.Bool.Decides.{eqb_tells, nat_tests}
@@ -99,12 +99,12 @@ set-at f s i j t true inside (inr e) = absurd (cc)
 set-at f s i j t false inside (inr e) = ap f (get_or-set_other s.tasks i j t unknown (λ h. e.1 (sym h)))
 
 -- a count that holds stays where nothing more comes
-saturating_sum-none : (n : ℕ) → n ≤ 18446744073709551615 → n ≡ saturating_sum n 0
+saturating_sum-none : (n : ℕ) → n ≤ 2 ^ 64 - 1 → n ≡ saturating_sum n 0
 saturating_sum-none n h = omega arith
 
 -- one task's count is so much further
 saturating_sum-at : (s : Figures) (i j more : ℕ) (b : Bool) → ((b ≡ true) × (i ≡ j)) ⊎ ((b ≡ false) × (i ≢ j))
-    → (task_in_figures s j).waited ≤ 18446744073709551615
+    → (task_in_figures s j).waited ≤ 2 ^ 64 - 1
     → cond b (saturating_sum (task_in_figures s i).waited more) (task_in_figures s j).waited ≡ saturating_sum (task_in_figures s j).waited (cond b more 0)
 saturating_sum-at s i j more true (inl e) h = ap (λ k. saturating_sum (task_in_figures s k).waited more) e.1
 saturating_sum-at s i j more false (inl e) h = absurd (cc)
@@ -143,7 +143,7 @@ since-taken processor at (Some id) s j inside =
 
 -- what it has waited counts
 waited-taken : (processor from at : ℕ) (task : Option ℕ) (s : Figures) (j : ℕ)
-    → j < length s.tasks → (task_in_figures s j).waited ≤ 18446744073709551615
+    → j < length s.tasks → (task_in_figures s j).waited ≤ 2 ^ 64 - 1
     → (task_in_figures (figures_taken processor at task s) j).waited
     ≡ saturating_sum (task_in_figures s j).waited (wait_of_pull j (moves_as from processor at task s))
 waited-taken processor from at None s j inside h = saturating_sum-none (task_in_figures s j).waited h
@@ -191,7 +191,7 @@ since-begun_if processor at (Some id) s j = task_kept (λ (t : TaskFigures). t.w
 
 -- the start of a task counts what it has waited
 waited-begun_if : (processor at : ℕ) (run : Option ℕ) (s : Figures) (j : ℕ)
-    → j < length s.tasks → (task_in_figures s j).waited ≤ 18446744073709551615
+    → j < length s.tasks → (task_in_figures s j).waited ≤ 2 ^ 64 - 1
     → (task_in_figures (begun_if processor at run s) j).waited
     ≡ saturating_sum (task_in_figures s j).waited (wait_of_start j (starts_as processor at run s))
 waited-begun_if processor at None s j inside h = saturating_sum-none (task_in_figures s j).waited h
@@ -249,7 +249,7 @@ since-switched reason processor at run s j inside =
 
 -- how long a task has waited after a switch, by whether another runs
 waited-switched_if : (b : Bool) (reason : StopReason) (processor at : ℕ) (run : Option ℕ) (s : Figures) (j : ℕ)
-    → j < length s.tasks → (task_in_figures s j).waited ≤ 18446744073709551615
+    → j < length s.tasks → (task_in_figures s j).waited ≤ 2 ^ 64 - 1
     → let u = stopped reason at (processor_in_figures s processor).running s in
     (task_in_figures (cond b s (started processor at run u)) j).waited
     ≡ saturating_sum (task_in_figures s j).waited (wait_of_start j (cond b None (starts_as processor at run u)))
@@ -263,7 +263,7 @@ waited-switched_if false reason processor at run s j inside h =
 
 -- after a switch what the task that begins has waited counts
 waited-switched : (reason : StopReason) (processor at : ℕ) (run : Option ℕ) (s : Figures) (j : ℕ)
-    → j < length s.tasks → (task_in_figures s j).waited ≤ 18446744073709551615
+    → j < length s.tasks → (task_in_figures s j).waited ≤ 2 ^ 64 - 1
     → (task_in_figures (figures_switched reason processor at run s) j).waited
     ≡ saturating_sum (task_in_figures s j).waited (wait_of_start j (start_at reason processor at run s))
 waited-switched reason processor at run s j inside h =
@@ -320,7 +320,7 @@ wait_seen-none j s e r h = refl
 -- since when a task waits, and how long it has, after an answer; and what that tells
 pub record ReportsWaited (s s' : Figures) (j : ℕ) (seen : Option ℕ) (c : Change) : Type 0 where
   pub waiting_since : (task_in_figures s' j).waiting_since ≡ unwrap_or seen (task_in_figures s j).waiting_since
-  pub waited : (task_in_figures s j).waited ≤ 18446744073709551615 → (task_in_figures s' j).waited ≡ saturating_sum (task_in_figures s j).waited (reported_wait j c)
+  pub waited : (task_in_figures s j).waited ≤ 2 ^ 64 - 1 → (task_in_figures s' j).waited ≡ saturating_sum (task_in_figures s j).waited (reported_wait j c)
 
 -- a time that is set on a condition is the one that the condition shows, or the one before
 then-is : (b : Bool) (at since : ℕ) → cond b at since ≡ unwrap_or (then_if b at) since
