@@ -3,7 +3,7 @@ ghost use Rattle.std.specs.Prelude.{◌≡◌, ◌==◌, ◌||◌};
 
 use crate::forms::form_of;
 use crate::number_reason::number_reason;
-use crate::vocabulary::nearest;
+use crate::vocabulary::meant_word;
 use bq_asm::{AssemblyCause, named};
 use bq_console::Quoted;
 use bq_insn::SLOTS;
@@ -115,7 +115,7 @@ fn label_reason(alloc: Global, written: &str, first: &str) -> Result<String, All
 
 /// Says that no instruction begins with a word, and which one may be meant.
 fn unknown(alloc: Global, word: &str) -> Result<String, AllocError> {
-    let known = nearest(alloc, word)?;
+    let known = meant_word(alloc, word)?;
     let word = Quoted(word);
     match known {
         Some(known) => format!(in alloc; "unknown word \"{word}\", did you mean \"{known}\"?"),

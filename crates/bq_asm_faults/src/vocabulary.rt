@@ -1,6 +1,6 @@
 //! The first words of the assembler's language, and the one that a wrong word may mean.
 use bq_asm::mnemonics;
-use bq_words::Near;
+use bq_words::nearest;
 use std::alloc::{AllocError, Global};
 
 /// Words of other assemblers that are far from the one that they mean here.
@@ -22,10 +22,7 @@ const FOREIGN: [(&str, &str); 15] = [
     ("return", "exit"),
 ];
 
-/// The most bytes of a wrong word for which a near word is looked for. Each known word has fewer.
-const LONGEST: usize = 40;
-
-/// Finds the word of the language that equals this one, if there is one.
+/// The word of the language that equals this one, if there is one.
 fn known_as(word: &str) -> Option<&'static str> {
     for (known, _) in mnemonics() {
         if *known == word {
@@ -47,10 +44,7 @@ fn meant_by(word: &str) -> Option<&'static str> {
 
 /// Finds the known word that is meant, whatever its case: the word with its width if only the width is left out, the word that
 /// means here what a word of another assembler means, or otherwise the nearest, if one is near.
-pub(crate) fn nearest(alloc: Global, word: &str) -> Result<Option<&'static str>, AllocError> {
-    if word.len() > LONGEST {
-        return Ok(None);
-    }
+pub(crate) fn meant_word(alloc: Global, word: &str) -> Result<Option<&'static str>, AllocError> {
     let word = word.to_ascii_lowercase(alloc)?;
     let with_width = format!(in alloc; "{word}64")?;
     if let Some(known) = known_as(with_width.as_str()) {
@@ -58,18 +52,10 @@ pub(crate) fn nearest(alloc: Global, word: &str) -> Result<Option<&'static str>,
     }
     match meant_by(word.as_str()) {
         Some(known) => Ok(Some(known)),
-        None => nearest_known(alloc, word.as_str()),
+        None => nearest(
+            alloc,
+            word.as_str(),
+            mnemonics().iter().map(|(known, _)| *known),
+        ),
     }
-}
-
-/// Finds the nearest of the known words, if one is near.
-fn nearest_known(alloc: Global, word: &str) -> Result<Option<&'static str>, AllocError> {
-    let mut best: Option<&'static str> = None;
-    let mut near = Near::of(word);
-    for (known, _) in mnemonics() {
-        if near.takes(alloc, word, known)? {
-            best = Some(known);
-        }
-    }
-    Ok(best)
 }

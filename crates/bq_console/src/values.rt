@@ -3,8 +3,8 @@ ghost use Rattle.std.specs.Prelude.{◌≡◌, IfOk, string_bytes};
 ghost use Rattle.bq_console.specs.Values.{RefusesValue, IsValueRefusal};
 
 use crate::fault::{WordsFault, words_fault};
-use crate::printable::{QUOTED, Quoted};
-use bq_words::Near;
+use crate::printable::Quoted;
+use bq_words::nearest;
 use std::alloc::{AllocError, Global};
 
 /// Says why an option does not take a value: the value in quotes, `right`, which says what is right, and if the value is near one
@@ -24,7 +24,7 @@ pub fn value_words(
 {
     let shown = Quoted(value);
     let mut text = format!(in alloc; "--{option} \"{shown}\": {right}")?;
-    if let Some(meant) = nearest(alloc, value, known)? {
+    if let Some(meant) = meant_word(alloc, value, known)? {
         write!(text, "; did you mean \"{meant}\"?")?;
     }
     Ok(text)
@@ -47,18 +47,8 @@ pub fn refused_value(
 }
 
 /// The word of a list that is nearest to a word, if one is near. Capital letters are as good as small ones.
-fn nearest<'a>(alloc: Global, word: &str, list: &'a str) -> Result<Option<&'a str>, AllocError> {
-    if word.len() > QUOTED {
-        return Ok(None);
-    }
+fn meant_word<'a>(alloc: Global, word: &str, list: &'a str) -> Result<Option<&'a str>, AllocError> {
     let word = word.to_ascii_lowercase(alloc)?;
-    let mut near = Near::of(word.as_str());
-    let mut best: Option<&'a str> = None;
-    for part in list.split(' ') {
-        let known = part.trim_end_matches(',');
-        if known != "or" && near.takes(alloc, word.as_str(), known)? {
-            best = Some(known);
-        }
-    }
-    Ok(best)
+    let parts = list.split(' ').map(|part| part.trim_end_matches(','));
+    nearest(alloc, word.as_str(), parts.filter(|known| *known != "or"))
 }

@@ -14,7 +14,7 @@ use bq_console::{Lines, Name, Quoted};
 use bq_hooks::hook::{NO_HOOK, NO_VERSION};
 use bq_object::is_object;
 use bq_policy_file::{Head, HeadCause, Key, PolicyFault, SHAPES_FORM, read_policy};
-use bq_words::Near;
+use bq_words::nearest;
 use serde_json::{Map, Value, put};
 use std::alloc::{AllocError, Global};
 
@@ -249,10 +249,10 @@ fn head_reason(
     Ok(at_line(line, why))
 }
 
-/// The most bytes of a word that a key may be near.
-const LONGEST: usize = 40;
+/// The keys of such lines.
+const KEYS: [&str; 3] = ["hook", "maps", "format"];
 
-/// Returns the key that the line of that number has misspelled, if it is a near one.
+/// The key that the line of that number has misspelled, if it is a near one.
 fn near_key(
     alloc: Global,
     bytes: &[u8],
@@ -268,18 +268,11 @@ fn near_key(
     let Some(written) = behind.split_whitespace().next() else {
         return Ok(None);
     };
-    if written.len() > LONGEST {
-        return Ok(None);
-    }
-    let mut best: Option<&'static str> = None;
-    let mut near = Near::of(written);
-    for key in &Key::ALL {
-        let word = key.word();
-        if written != word && near.takes(alloc, written, word)? {
-            best = Some(word);
-        }
-    }
-    Ok(best)
+    nearest(
+        alloc,
+        written,
+        KEYS.iter().copied().filter(|key| *key != written),
+    )
 }
 
 /// Says what is wrong with what a line says of a key.

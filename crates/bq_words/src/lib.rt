@@ -19,7 +19,7 @@ pub mod words;
 pub use blanks::{Blank, Spaces};
 pub use discipline_name::DisciplineName;
 pub use durations::duration;
-pub use near::Near;
+pub use near::{Near, nearest};
 pub use numbers::{number, value};
 pub use processor_count::ProcessorCount;
 pub use units::nanoseconds;

@@ -1,10 +1,7 @@
 //! The word that was perhaps meant.
 
-use bq_words::Near;
+use bq_words::nearest;
 use std::alloc::{AllocError, Global};
-
-/// The most bytes of a word that may be a misspelling.
-const SHORT: usize = 40;
 
 /// Keys that are often written for another.
 const FOREIGN: [(&str, &str); 11] = [
@@ -33,43 +30,14 @@ pub(crate) fn meant_word(
             return Ok(Some(known));
         }
     }
-    nearest_word(alloc, meant, words)
+    nearest(alloc, meant, words.iter().copied())
 }
 
-/// The nearest of some words, if one is near.
-fn nearest_word(
-    alloc: Global,
-    meant: &str,
-    words: &[&'static str],
-) -> Result<Option<&'static str>, AllocError> {
-    if meant.len() > SHORT {
-        return Ok(None);
-    }
-    let mut best: Option<&'static str> = None;
-    let mut near = Near::of(meant);
-    for known in words {
-        if near.takes(alloc, meant, known)? {
-            best = Some(known);
-        }
-    }
-    Ok(best)
-}
-
-/// The nearest of some names, if one is near.
+/// Finds the nearest of some names, if one is near.
 pub(crate) fn nearest_name<'a>(
     alloc: Global,
     meant: &str,
     names: &'a [String],
 ) -> Result<Option<&'a str>, AllocError> {
-    if meant.len() > SHORT {
-        return Ok(None);
-    }
-    let mut best: Option<&'a str> = None;
-    let mut near = Near::of(meant);
-    for known in names {
-        if near.takes(alloc, meant, known.as_str())? {
-            best = Some(known.as_str());
-        }
-    }
-    Ok(best)
+    nearest(alloc, meant, names.iter().map(|name| name.as_str()))
 }
