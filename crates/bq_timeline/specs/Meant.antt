@@ -1,8 +1,7 @@
 -- The name of a task that was perhaps meant by a name that no task has.
-use Rattle.std.specs.Prelude.{ℕ, zero, suc, nat_lt, Bool, false, List, length, Option, Some, None, if◌then◌else◌, option_and_then}
+use Rattle.std.specs.Prelude.{ℕ, zero, suc, nat_lt, Bool, false, List, Option, Some, None, if◌then◌else◌, option_and_then}
 use Rattle.bq_disc.specs.declared.limits.TheConstants.{TASKS}
 use Rattle.bq_report.specs.Names.{NamedTasks, name_of}
-use Rattle.bq_timeline.specs.declared.meant.TheConstants.{LONGEST}
 use Rattle.bq_words.specs.Nearness.{edits, edits_before, fewer}
 
 -- the name of a task, if it has one, is fewer edits away than this
@@ -30,6 +29,6 @@ nearest_below named name (suc task) =
 abbrev pub nearest_task : NamedTasks → List ℕ → Option ℕ
 nearest_task named name = nearest_below named name TASKS
 
--- the name that was perhaps meant: the nearest, if one is near; none for a word of more than LONGEST bytes
+-- the name that was perhaps meant: the nearest, if one is near
 abbrev pub name_meant : NamedTasks → List ℕ → Option (List ℕ)
-name_meant named name = if nat_lt LONGEST (length name) then None else option_and_then (λ task. name_of named task) (nearest_task named name)
+name_meant named name = option_and_then (λ task. name_of named task) (nearest_task named name)

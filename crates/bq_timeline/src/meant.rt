@@ -7,9 +7,6 @@ use bq_report::Names;
 use bq_words::Near;
 use std::alloc::{AllocError, Global};
 
-/// The longest word, in bytes, for which a near name is looked for.
-pub const LONGEST: usize = 40;
-
 /// Returns the name of a task that is nearest to a name that no task has, if one is near.
 pub(crate) fn name_meant<'a>(
     alloc: Global,
@@ -18,9 +15,6 @@ pub(crate) fn name_meant<'a>(
 ) -> Result<Option<&'a str>, AllocError>
     ensures { IfOk result (λ near. option_map (λ n. n.now) near ≡ name_meant names.now name.now) }
 {
-    if name.len() > LONGEST {
-        return Ok(None);
-    }
     match nearest_task(alloc, name, names)? {
         Some(task) => Ok(names.of(task)),
         None => Ok(None),
