@@ -1,5 +1,5 @@
 //! The words that lines begin with.
-ghost use Rattle.std.specs.Prelude.{◌≡◌};
+ghost use Rattle.std.specs.Prelude.{◌≡◌, Contains};
 ghost use Rattle.std.specs.Str.{bytes_eq};
 ghost use Rattle.bq_lines.specs.Keywords.{keyword_of, setting_keyword_of, keyword_of_event, keyword_word};
 
@@ -38,6 +38,24 @@ pub enum Keyword {
     Counter,
 }
 
+/// All keywords.
+const KEYWORDS: [Keyword; 14] = [
+    Keyword::Machine,
+    Keyword::Admit,
+    Keyword::Retire,
+    Keyword::Draw,
+    Keyword::Install,
+    Keyword::Begin,
+    Keyword::End,
+    Keyword::Wake,
+    Keyword::Drain,
+    Keyword::Tick,
+    Keyword::Block,
+    Keyword::Pull,
+    Keyword::Show,
+    Keyword::Counter,
+];
+
 /// A text that says with an example how a trace begins, between `before` and `behind`.
 #[macro_export]
 macro_rules! with_first_line {
@@ -51,6 +69,13 @@ macro_rules! with_first_line {
 }
 
 impl Keyword {
+    /// Returns all keywords. If the words of two are equally near to an unknown word, the first one is likelier.
+    pub(crate) fn all() -> [Keyword; 14]
+        ensures { (keyword : Keyword) → Contains result keyword }
+    {
+        KEYWORDS
+    }
+
     /// Returns the word itself, such as `tick`.
     #[inline(always)]
     pub fn word(self) -> &'static str

@@ -4,7 +4,7 @@ use crate::bytes::is_allowed_line;
 use crate::keyword::Keyword;
 use crate::line_operand::{LineOperand, operands_of};
 use crate::lines::LONGEST;
-use bq_words::{Near, next_word};
+use bq_words::{nearest, next_word};
 use std::alloc::{AllocError, Global};
 use std::{fmt, str};
 
@@ -85,34 +85,9 @@ pub fn meant_keyword(
     let Ok(name) = str::from_utf8(beginning(name)) else {
         return Ok(None);
     };
-    let mut near = Near::of(name);
-    let mut best: Option<&'static str> = None;
-    for keyword in &KEYWORDS {
-        let known = keyword.word();
-        if near.takes(alloc, name, known)? {
-            best = Some(known);
-        }
-    }
-    Ok(best)
+    let words = Keyword::all().map(|keyword| keyword.word());
+    nearest(alloc, name, words.iter().copied())
 }
-
-/// All keywords.
-const KEYWORDS: [Keyword; 14] = [
-    Keyword::Machine,
-    Keyword::Admit,
-    Keyword::Retire,
-    Keyword::Draw,
-    Keyword::Install,
-    Keyword::Begin,
-    Keyword::End,
-    Keyword::Wake,
-    Keyword::Drain,
-    Keyword::Tick,
-    Keyword::Block,
-    Keyword::Pull,
-    Keyword::Show,
-    Keyword::Counter,
-];
 
 /// How many words there are, as `one word`.
 #[derive(Clone, Copy)]
