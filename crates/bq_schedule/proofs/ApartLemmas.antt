@@ -1,5 +1,5 @@
 -- The slices of a processor stand apart.
-use Rattle.std.proofs.Common.{◌≡◌, ◌≢◌, ℕ, ◌<◌, ◌≤◌, Bool, true, false, List, [], ◌∷◌, ◌++◌, Option, Some, None, refl, sym, ap, ◌∙◌, ◌⊎◌, inl, inr, eqb, ltb, cond, append-nil, subst, arith}
+use Rattle.std.proofs.Common.{◌≡◌, ◌≢◌, ℕ, ◌<◌, ◌≤◌, Bool, true, false, List, [], ◌∷◌, ◌++◌, Option, Some, None, refl, sym, ap, ◌∙◌, inl, inr, eqb, ltb, cond, append-nil, subst, arith}
 use Rattle.std.specs.Prelude.{option_to_list, All, filter}
 use Rattle.std.proofs.lemmas.Bool.Decides.{eqb_tells, nat_tests}
 use Rattle.std.proofs.lemmas.List.Elements.{filter-append, All-nil, All-push, All-head, All-tail, All-weaker}
@@ -7,6 +7,7 @@ use Rattle.bq_disc.specs.OneProcessor.{reading}
 use Rattle.bq_schedule.specs.declared.slice.Slice.{Slice}
 use Rattle.bq_schedule.specs.Histories.{History}
 use Rattle.bq_schedule.specs.Slices.{ShownByAnswer, shown_by_answer, clock_after, clock, runner, slice_of, slice_shown, slices, is_slice_at, StandApart, slices_at}
+use Rattle.bq_schedule.proofs.TestLemmas.{Tells}
 
 -- slices that end by some time
 abbrev pub EndBy : ℕ → List Slice → Type 0
@@ -63,7 +64,7 @@ rises false c now = omega arith
 -- what an answered event ends at a processor begins at its last reading, and ends by the next
 next_at : (x : ShownByAnswer) (past : History) (processor : ℕ) (who : Option ℕ) (b e : Bool)
     → ltb (clock x.processor past) (reading (clock x.processor past) x.now) ≡ b
-    → ((e ≡ true) × (x.processor ≡ processor)) ⊎ ((e ≡ false) × (x.processor ≢ processor)) → eqb x.processor processor ≡ e
+    → Tells e (x.processor ≡ processor) (x.processor ≢ processor) → eqb x.processor processor ≡ e
     → IsNext (clock processor past) (cond e (reading (clock processor past) x.now) (clock processor past))
     (at_only processor (slice_of x.processor who (clock x.processor past) (reading (clock x.processor past) x.now)))
 next_at x past processor None b e lt t is = rises e (clock processor past) x.now

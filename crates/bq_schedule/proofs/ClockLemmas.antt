@@ -1,6 +1,6 @@
 -- The clocks of a schedule, and who runs, are those of its history.
-use Rattle.std.proofs.Common.{◌≡◌, ◌≢◌, ℕ, ◌<◌, Bool, true, false, [], ◌∷◌, length, get_or, Option, Some, None, Result, Ok, Err, refl, sym, ap, ◌∙◌, subst, ◌⊎◌, inl, inr, get_or-set_same, get_or-set_other, eqb, ltb, cond, arith, ltb-true}
-use Rattle.std.specs.Prelude.{unwrap_or, slice_set}
+use Rattle.std.proofs.Common.{◌≡◌, ◌≢◌, ℕ, ◌<◌, Bool, true, false, [], ◌∷◌, length, get_or, Option, Some, None, Result, Ok, Err, refl, sym, ap, ◌∙◌, subst, inl, inr, eqb, ltb, cond, arith, ltb-true}
+use Rattle.std.specs.Prelude.{unwrap_or}
 use Rattle.std.proofs.lemmas.Bool.Decides.{eqb_tells, nat_tests}
 use Rattle.std.proofs.lemmas.List.{get_or-replicate, length-replicate}
 use Rattle.std.specs.Option.{option_map}
@@ -23,6 +23,7 @@ use Rattle.bq_schedule.specs.Running.{running_task, figures_switched}
 use Rattle.bq_schedule.specs.Slices.{ShownByAnswer, shown_by_reply, shown_by_answer, clock_after, clock, runner_after, runner}
 use Rattle.bq_schedule.specs.Steps.{figures_counted, figures_taken, emptied, figures_decided, placed, blocked, figures_pulled, performed, time_at, is_there, figures_after, figures}
 use Rattle.bq_schedule.specs.Laws.{IsShownWithin, IsOfProcessors}
+use Rattle.bq_schedule.proofs.TestLemmas.{Tells, get_or-set_at}
 use Rattle.bq_schedule.proofs.FrameLemmas.{Works, KeepsWorks, KeepsRunning, RunsAs, works-then, works-id, works-with_task, works-with_processor, works-counted, works-leaves, works-comes, works-taken, works-switched, running-then, running-id, running-with_task, running-with_processor, running-counted, running-leaves, running-comes, running-taken, running-read_at, runs-after, runs-before, runs-switched, count-read_at, processors-read_at}
 
 -- what a reply does: the clock is read that it shows, and nothing else of the works changes; and it runs who it says
@@ -181,32 +182,20 @@ pub within-figures : (count : ℕ) (past : History) (m : AnsweredEvent)
     → IsShownWithin (length (figures count past).processors) (shown_by_answer m.event m.answer)
 within-figures count past m h = within_same _ _ _ (count-figures count past h.1) h.0
 
--- a reading at one processor leaves the works of the others
-works-read_at : (processor now j : ℕ) (s : Figures) → j < length s.processors
-    → (b : Bool) → ((b ≡ true) × (processor ≡ j)) ⊎ ((b ≡ false) × (processor ≢ j))
-    → processor_in_figures (figures_read processor now s) j ≡ cond b (processor_read processor (processor_in_figures s processor) now) (processor_in_figures s j)
-works-read_at processor now j s inside true (inl same) =
-    ap (λ l. get_or l j unread) (processors-read_at processor now s)
-    ∙ ap (λ k. get_or (slice_set s.processors k (processor_read processor (processor_in_figures s processor) now)) j unread) same.1
-    ∙ get_or-set_same s.processors j (processor_read processor (processor_in_figures s processor) now) unread inside
-works-read_at processor now j s inside false (inl same) = absurd (cc)
-works-read_at processor now j s inside true (inr other) = absurd (cc)
-works-read_at processor now j s inside false (inr other) =
-    ap (λ l. get_or l j unread) (processors-read_at processor now s)
-    ∙ get_or-set_other s.processors processor j (processor_read processor (processor_in_figures s processor) now) unread (λ e. other.1 (sym e))
-
 -- after a reading its processor has what the reading makes of it, and each other what it had
 pub processor-read_at : (processor now j : ℕ) (s : Figures) → j < length s.processors
     → processor_in_figures (figures_read processor now s) j
     ≡ cond (eqb processor j) (processor_read processor (processor_in_figures s processor) now) (processor_in_figures s j)
-processor-read_at processor now j s inside = works-read_at processor now j s inside (eqb processor j) (eqb_tells processor j)
+processor-read_at processor now j s inside =
+    ap (λ l. get_or l j unread) (processors-read_at processor now s)
+    ∙ get_or-set_at (λ (p : ProcessorFigures). p) s.processors processor j _ unread (λ same. inside)
 
 -- what a reading makes of the last reading of a processor, its own or another:
 last-cond : (b : Bool) (p q : ProcessorFigures) → (cond b p q).last ≡ cond b p.last q.last
 last-cond true p q = refl
 last-cond false p q = refl
 
-last-same : (processor now j : ℕ) (s : Figures) (b : Bool) → ((b ≡ true) × (processor ≡ j)) ⊎ ((b ≡ false) × (processor ≢ j))
+last-same : (processor now j : ℕ) (s : Figures) (b : Bool) → Tells b (processor ≡ j) (processor ≢ j)
     → cond b (reading (processor_in_figures s processor).last now) (processor_in_figures s j).last
     ≡ cond b (reading (processor_in_figures s j).last now) (processor_in_figures s j).last
 last-same processor now j s true (inl same) = ap (λ k. reading (processor_in_figures s k).last now) same.1
@@ -226,7 +215,7 @@ last-shown s s' (Some x) j inside h =
 
 -- what is reported of who runs holds at its processor, and each other runs whom it ran
 running_task-at : (o : Option (Option ℕ)) (s s' : Figures) (processor j : ℕ) (b : Bool)
-    → ((b ≡ true) × (processor ≡ j)) ⊎ ((b ≡ false) × (processor ≢ j)) → RunsAs o processor s s'
+    → Tells b (processor ≡ j) (processor ≢ j) → RunsAs o processor s s'
     → running_task (processor_in_figures s' j) ≡ cond b (unwrap_or o (running_task (processor_in_figures s j))) (running_task (processor_in_figures s j))
 running_task-at None s s' processor j true t h = ap (option_map (λ (x : Start). x.task)) (h.at j)
 running_task-at None s s' processor j false t h = ap (option_map (λ (x : Start). x.task)) (h.at j)

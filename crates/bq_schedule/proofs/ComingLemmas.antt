@@ -1,5 +1,5 @@
 -- A task that comes to a processor, or is admitted, has what it had.
-use Rattle.std.proofs.Common.{◌≡◌, ◌≢◌, ℕ, ◌+◌, ◌-◌, ◌*◌, ◌<◌, ◌≤◌, Bool, true, false, length, get_or, Option, Some, None, refl, sym, ap, ◌∙◌, ◌⊎◌, inl, inr, eqb, leb, cond, arith}
+use Rattle.std.proofs.Common.{◌≡◌, ◌≢◌, ℕ, ◌+◌, ◌-◌, ◌*◌, ◌<◌, ◌≤◌, Bool, true, false, length, get_or, Option, Some, None, refl, sym, ap, ◌∙◌, inl, inr, eqb, leb, cond, arith}
 use Rattle.std.specs.Prelude.{ℤ}
 use Rattle.std.specs.List.{sum_by}
 use Rattle.std.proofs.lemmas.Bool.Decides.{eqb_tells, leb_tells}
@@ -11,9 +11,10 @@ use Rattle.bq_schedule.specs.Figures.{Figures, unknown, processor_in_figures, ta
 use Rattle.bq_schedule.specs.Runnable.{processor_joined, joins}
 use Rattle.bq_schedule.specs.Steps.{figures_admitted}
 use Rattle.bq_schedule.specs.FairTimes.{weight_there, weights_at}
-use Rattle.bq_schedule.proofs.FrameLemmas.{task_kept}
+use Rattle.bq_schedule.proofs.TestLemmas.{Tells}
+use Rattle.bq_schedule.proofs.FrameLemmas.{task_kept, processor_set, task_set}
 use Rattle.bq_schedule.proofs.PurseLemmas
-use Rattle.bq_schedule.proofs.LeavingLemmas.{weight-here, weight-elsewhere, weight-nowhere, weights-few, weights-set, set-there, set_reads, shared-with_processor, joined-set, raw-set, beyond_table, weight_at-le}
+use Rattle.bq_schedule.proofs.LeavingLemmas.{weight-here, weight-elsewhere, weight-nowhere, weights-few, weights-set, shared-with_processor, joined-set, raw-set, beyond_table, weight_at-le}
 
 -- each task has what it had, and all stays sound
 pub record Stays (s s' : Figures) : Type 0 where
@@ -22,7 +23,7 @@ pub record Stays (s s' : Figures) : Type 0 where
 
 -- where a task comes to a processor, the weight counted at each is again the sum of the weights there
 weights-joined : (s s' : Figures) (id processor j w : ℕ) (t' : TaskFigures) (b : Bool)
-    → PurseLemmas.IsSound s → ((b ≡ true) × (processor ≡ j)) ⊎ ((b ≡ false) × (processor ≢ j))
+    → PurseLemmas.IsSound s → Tells b (processor ≡ j) (processor ≢ j)
     → eqb processor j ≡ b → (task_in_figures s id).processor ≡ None → t'.processor ≡ Some processor
     → t'.weight ≡ (task_in_figures s id).weight → (processor_in_figures s j).weight ≡ weights_at s j
     → weights_at s' j + weight_there j (task_in_figures s id) ≡ weights_at s j + weight_there j t'
@@ -61,7 +62,7 @@ joined-inside s id processor p t' h inside at shared weight now_at same joined a
     let u = PurseLemmas.purse t' in
     let gives : (j : ℕ) → PurseLemmas.shared_at s2 j ≡ PurseLemmas.shared_at s j = λ j. shared-with_processor s processor p j shared in
     let is : (j : ℕ) → PurseLemmas.purse (task_in_figures s2 j) ≡ cond (eqb id j) u (PurseLemmas.purse (task_in_figures s j)) =
-    λ j. set_reads PurseLemmas.purse s1 id j t' (eqb id j) inside (eqb_tells id j) in
+    λ j. task_set PurseLemmas.purse s1 id j t' (λ same. omega (arith, same, inside)) in
     let had : PurseLemmas.uncapped s id ≡ (task_in_figures s id).earlier_fair_time =
     ap (λ o. PurseLemmas.worth_at (PurseLemmas.shared_at s) (PurseLemmas.purse (task_in_figures s id)) o) at in
     record {
@@ -70,7 +71,7 @@ joined-inside s id processor p t' h inside at shared weight now_at same joined a
             let there' : j < length s.processors = omega (arith, there, length-set s.processors processor p) in
             weights-joined s s2 id processor j (processor_in_figures s2 j).weight t' (eqb processor j) h (eqb_tells processor j) refl
             at now_at same (h.weights j there') (weights-set s1 id j t' inside)
-            (set-there s processor j p (eqb processor j) there' (eqb_tells processor j)
+            (processor_set (λ (q : ProcessorFigures). q.weight) s processor j p (λ same. there')
             ∙ ap (λ w. cond (eqb processor j) w (processor_in_figures s j).weight) weight);
         joined = λ j.
             joined-set s s2 j u (eqb id j) gives (is j)
@@ -85,7 +86,7 @@ joined-inside s id processor p t' h inside at shared weight now_at same joined a
 
 -- what counts nothing more is as it was
 saturating_sum-none : (s : Figures) (processor j w : ℕ) (b : Bool)
-    → PurseLemmas.IsSound s → j < length s.processors → ((b ≡ true) × (processor ≡ j)) ⊎ ((b ≡ false) × (processor ≢ j))
+    → PurseLemmas.IsSound s → j < length s.processors → Tells b (processor ≡ j) (processor ≢ j)
     → w ≡ cond b (saturating_sum (processor_in_figures s processor).weight 0) (processor_in_figures s j).weight
     → w ≡ (processor_in_figures s j).weight
 saturating_sum-none s processor j w true h there (inl e) new =
@@ -112,7 +113,7 @@ joined-outside s id processor p t' h past shared weight =
         weights = λ j there.
             let there' : j < length s.processors = omega (arith, there, length-set s.processors processor p) in
             saturating_sum-none s processor j (processor_in_figures s2 j).weight (eqb processor j) h there' (eqb_tells processor j)
-            (set-there s processor j p (eqb processor j) there' (eqb_tells processor j)
+            (processor_set (λ (q : ProcessorFigures). q.weight) s processor j p (λ same. there')
             ∙ ap (λ w. cond (eqb processor j) w (processor_in_figures s j).weight)
             (weight ∙ ap (saturating_sum (processor_in_figures s processor).weight) none))
             ∙ h.weights j there' ∙ ap (λ l. sum_by (weight_there j) l) (sym tasks);
@@ -129,7 +130,7 @@ joined-outside s id processor p t' h past shared weight =
 
 -- a task that is nowhere joins a processor, whether or not its id is in the table
 joined-if : (s : Figures) (id processor now : ℕ) (b : Bool) → PurseLemmas.IsSound s → (task_in_figures s id).processor ≡ None
-    → ((b ≡ true) × (length s.tasks ≤ id)) ⊎ ((b ≡ false) × (id < length s.tasks))
+    → Tells b (length s.tasks ≤ id) (id < length s.tasks)
     → Stays s (joins id processor now s)
 joined-if s id processor now b h at (inl past) =
     joined-outside s id processor (processor_joined (processor_in_figures s processor) (task_in_figures s id).weight) _ h past.1 refl refl
@@ -155,7 +156,7 @@ admitted-inside s id t' h inside at now_at weight accrued =
     let s2 = figures_with_task s id t' in
     let u = PurseLemmas.purse t' in
     let is : (j : ℕ) → PurseLemmas.purse (task_in_figures s2 j) ≡ cond (eqb id j) u (PurseLemmas.purse (task_in_figures s j)) =
-    λ j. set_reads PurseLemmas.purse s id j t' (eqb id j) inside (eqb_tells id j) in
+    λ j. task_set PurseLemmas.purse s id j t' (λ same. omega (arith, same, inside)) in
     let had : PurseLemmas.uncapped s id ≡ (task_in_figures s id).earlier_fair_time =
     ap (λ o. PurseLemmas.worth_at (PurseLemmas.shared_at s) (PurseLemmas.purse (task_in_figures s id)) o) at in
     record {
@@ -195,7 +196,7 @@ admitted-outside s id t' h past =
 
 -- a task that is nowhere is admitted, whether or not its id is in the table
 admitted-if : (s : Figures) (id : ℕ) (nice : ℤ) (b : Bool) → PurseLemmas.IsSound s → (task_in_figures s id).processor ≡ None
-    → ((b ≡ true) × (length s.tasks ≤ id)) ⊎ ((b ≡ false) × (id < length s.tasks))
+    → Tells b (length s.tasks ≤ id) (id < length s.tasks)
     → Stays s (figures_admitted id nice s)
 admitted-if s id nice b h at (inl past) = admitted-outside s id _ h past.1
 admitted-if s id nice b h at (inr inside) = admitted-inside s id _ h inside.1 at at (weight_at-le nice) refl

@@ -1,5 +1,5 @@
 -- What each move of a schedule leaves as it was. A processor's works are what only a reading of its clock changes.
-use Rattle.std.proofs.Common.{◌≡◌, ◌≢◌, ℕ, ◌<◌, ◌≤◌, Bool, true, false, List, length, get_or, Option, Some, None, refl, sym, ap, ◌∙◌, ◌⊎◌, inl, inr, get_or-set_same, get_or-set_other, eqb, leb, cond, arith}
+use Rattle.std.proofs.Common.{◌≡◌, ◌≢◌, ℕ, ◌<◌, ◌≤◌, Bool, true, false, List, length, get_or, Option, Some, None, refl, sym, ap, ◌∙◌, inl, inr, get_or-set_same, get_or-set_other, eqb, leb, cond, arith}
 use Rattle.std.proofs.lemmas.List.{set_past, length-set}
 use Rattle.std.proofs.lemmas.Bool.Decides.{eqb_tells, leb_tells, nat_tests}
 use Rattle.std.specs.Prelude.{slice_set}
@@ -18,10 +18,11 @@ use Rattle.bq_schedule.specs.Passing.{with_charged, figures_read, processor_read
 use Rattle.bq_schedule.specs.Runnable.{left_from, figures_left, joins, comes}
 use Rattle.bq_schedule.specs.Running.{running_task, stopped, started, begun_if, starts_as, processor_runs, figures_switched, is_run_by, with_latency}
 use Rattle.bq_schedule.specs.Steps.{processor_counted, figures_counted, waited_there, figures_taken}
+use Rattle.bq_schedule.proofs.TestLemmas.{Tells, get_or-set_at}
 
 -- a place of a list is set to what f cannot tell from what was there
 get_or-set_case : {X Y : Type 0} (f : X → Y) (xs : List X) (i j : ℕ) (y d : X) (b c : Bool) → f y ≡ f (get_or xs i d) →
-    ((b ≡ true) × (j ≡ i)) ⊎ ((b ≡ false) × (j ≢ i)) → ((c ≡ true) × (length xs ≤ i)) ⊎ ((c ≡ false) × (i < length xs)) →
+    Tells b (j ≡ i) (j ≢ i) → Tells c (length xs ≤ i) (i < length xs) →
     f (get_or (slice_set xs i y) j d) ≡ f (get_or xs j d)
 get_or-set_case f xs i j y d b c e (inl same) (inr inside) =
     ap (λ k. f (get_or (slice_set xs i y) k d)) same.1 ∙ ap f (get_or-set_same xs i y d inside.1) ∙ e
@@ -43,6 +44,15 @@ processor_kept f s i j p e = get_or-set_like f s.processors i j p unread e
 pub task_kept : {Y : Type 0} (f : TaskFigures → Y) (s : Figures) (i j : ℕ) (t : TaskFigures) → f t ≡ f (task_in_figures s i) →
     f (task_in_figures (figures_with_task s i t) j) ≡ f (task_in_figures s j)
 task_kept f s i j t e = get_or-set_like f s.tasks i j t unknown e
+
+-- after a processor is set, or a task, f reads of it what is set, and of each other what it was:
+pub processor_set : {Y : Type 0} (f : ProcessorFigures → Y) (s : Figures) (i j : ℕ) (p : ProcessorFigures) → (i ≡ j → j < length s.processors)
+    → f (processor_in_figures (figures_with_processor s i p) j) ≡ cond (eqb i j) (f p) (f (processor_in_figures s j))
+processor_set f s i j p inside = get_or-set_at f s.processors i j p unread inside
+
+pub task_set : {Y : Type 0} (f : TaskFigures → Y) (s : Figures) (i j : ℕ) (t : TaskFigures) → (i ≡ j → j < length s.tasks)
+    → f (task_in_figures (figures_with_task s i t) j) ≡ cond (eqb i j) (f t) (f (task_in_figures s j))
+task_set f s i j t inside = get_or-set_at f s.tasks i j t unknown inside
 
 -- what only a reading of the clock changes
 pub record Works : Type 0 where

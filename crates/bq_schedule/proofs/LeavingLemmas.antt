@@ -1,6 +1,6 @@
 -- The weights at each processor, and what a task that leaves one keeps of its fair time.
-use Rattle.std.proofs.Common.{◌≡◌, ◌≢◌, ℕ, ◌+◌, ◌-◌, ◌*◌, ◌^◌, ◌<◌, ◌≤◌, max, Bool, true, false, List, [], ◌∷◌, length, get_or, Option, Some, None, refl, sym, ap, ◌∙◌, ◌⊎◌, inl, inr, eqb, leb, cond, zero, suc, get_or-set_same, get_or-set_other, arith, eq-eqb}
-use Rattle.std.specs.Prelude.{slice_set, ℤ, pos, negsuc}
+use Rattle.std.proofs.Common.{◌≡◌, ◌≢◌, ℕ, ◌+◌, ◌-◌, ◌*◌, ◌^◌, ◌<◌, ◌≤◌, max, Bool, true, false, List, [], ◌∷◌, length, get_or, Option, Some, None, refl, ap, ◌∙◌, inl, inr, eqb, leb, cond, zero, suc, get_or-set_same, arith, eq-eqb}
+use Rattle.std.specs.Prelude.{ℤ, pos, negsuc}
 use Rattle.std.proofs.lemmas.Bool.Decides.{eqb_tells, leb_tells}
 use Rattle.std.proofs.lemmas.List.{get_or_past, length-set}
 use Rattle.std.proofs.lemmas.List.Sums.{sum_by-set, sum_by-le}
@@ -8,12 +8,13 @@ use Rattle.std.proofs.lemmas.List.Elements.{All-from_get_or}
 use Rattle.bq_weights.specs.VirtualTime.{weights, weight_of}
 use Rattle.bq_schedule.specs.declared.figures.TaskFigures.{TaskFigures}
 use Rattle.bq_schedule.specs.declared.figures.ProcessorFigures.{ProcessorFigures}
-use Rattle.bq_schedule.specs.Figures.{Figures, unread, unknown, processor_in_figures, task_in_figures, figures_with_processor, figures_with_task}
+use Rattle.bq_schedule.specs.Figures.{Figures, unknown, processor_in_figures, task_in_figures, figures_with_processor, figures_with_task}
 use Rattle.bq_schedule.specs.Runnable.{fair_at, processor_left, left_from, figures_left}
 use Rattle.bq_schedule.specs.Steps.{weight_or_zero}
 use Rattle.bq_schedule.specs.Slices.{is_this}
 use Rattle.bq_schedule.specs.FairTimes.{weight_there, weights_at}
-use Rattle.bq_schedule.proofs.FrameLemmas.{processor_kept, task_kept}
+use Rattle.bq_schedule.proofs.TestLemmas.{Tells}
+use Rattle.bq_schedule.proofs.FrameLemmas.{processor_kept, task_kept, processor_set, task_set}
 use Rattle.bq_schedule.proofs.PurseLemmas
 
 -- a weight is one of the table, or none
@@ -47,7 +48,7 @@ weight_at-le nice = weight_if-le _ (weight_of nice) (weight_of-le nice)
 
 -- a task that is somewhere has an id of the table
 in_table_by : (s : Figures) (id processor : ℕ) (b : Bool) → (task_in_figures s id).processor ≡ Some processor
-    → ((b ≡ true) × (length s.tasks ≤ id)) ⊎ ((b ≡ false) × (id < length s.tasks))
+    → Tells b (length s.tasks ≤ id) (id < length s.tasks)
     → id < length s.tasks
 in_table_by s id processor b e (inl past) =
     let u : (task_in_figures s id).processor ≡ None = ap (λ (t : TaskFigures). t.processor) (get_or_past s.tasks id unknown past.1) in cc
@@ -59,16 +60,6 @@ in_table s id processor e = in_table_by s id processor (leb (length s.tasks) id)
 -- one that has none has nothing
 pub beyond_table : (s : Figures) (id : ℕ) → length s.tasks ≤ id → task_in_figures s id ≡ unknown
 beyond_table s id past = get_or_past s.tasks id unknown past
-
--- where a task is set, what f reads of each task is what it was, or what it is set to
-pub set_reads : {Y : Type 0} (f : TaskFigures → Y) (s : Figures) (id j : ℕ) (t : TaskFigures) (b : Bool)
-    → id < length s.tasks → ((b ≡ true) × (id ≡ j)) ⊎ ((b ≡ false) × (id ≢ j))
-    → f (task_in_figures (figures_with_task s id t) j) ≡ cond b (f t) (f (task_in_figures s j))
-set_reads f s id j t true inside (inl e) =
-    ap (λ k. f (get_or (slice_set s.tasks id t) k unknown)) (sym e.1) ∙ ap f (get_or-set_same s.tasks id t unknown inside)
-set_reads f s id j t false inside (inl e) = absurd (cc)
-set_reads f s id j t true inside (inr e) = absurd (cc)
-set_reads f s id j t false inside (inr e) = ap f (get_or-set_other s.tasks id j t unknown (λ h. e.1 (sym h)))
 
 -- the weights at a processor, where a task is set
 pub weights-set : (s : Figures) (id processor : ℕ) (t : TaskFigures)
@@ -90,18 +81,6 @@ weight-elsewhere processor k t b e ne = ap (λ o. cond (is_this processor o) t.w
 pub weight-nowhere : (processor : ℕ) (t : TaskFigures) → t.processor ≡ None → weight_there processor t ≡ 0
 weight-nowhere processor t e = ap (λ o. cond (is_this processor o) t.weight 0) e
 
--- what a processor's figures are after one is set
-pub set-there : (s : Figures) (i j : ℕ) (p : ProcessorFigures) (b : Bool)
-    → j < length s.processors → ((b ≡ true) × (i ≡ j)) ⊎ ((b ≡ false) × (i ≢ j))
-    → (processor_in_figures (figures_with_processor s i p) j).weight ≡ cond b p.weight (processor_in_figures s j).weight
-set-there s i j p true inside (inl e) =
-    ap (λ k. (get_or (slice_set s.processors k p) j unread).weight) e.1
-    ∙ ap (λ (q : ProcessorFigures). q.weight) (get_or-set_same s.processors j p unread inside)
-set-there s i j p false inside (inl e) = absurd (cc)
-set-there s i j p true inside (inr e) = absurd (cc)
-set-there s i j p false inside (inr e) =
-    ap (λ (q : ProcessorFigures). q.weight) (get_or-set_other s.processors i j p unread (λ h. e.1 (sym h)))
-
 -- what was given at each processor is kept where a processor is set that has given the same
 pub shared-with_processor : (s : Figures) (i : ℕ) (p : ProcessorFigures) (j : ℕ)
     → p.shared ≡ PurseLemmas.shared_at s i
@@ -116,7 +95,7 @@ pub record Leaves (id : ℕ) (s s' : Figures) : Type 0 where
 
 -- where a task leaves a processor, the weight counted at each is again the sum of the weights there
 weights-left : (s s' : Figures) (id processor j : ℕ) (b : Bool) (w : ℕ)
-    → ((b ≡ true) × (processor ≡ j)) ⊎ ((b ≡ false) × (processor ≢ j)) → eqb processor j ≡ b
+    → Tells b (processor ≡ j) (processor ≢ j) → eqb processor j ≡ b
     → id < length s.tasks → (task_in_figures s id).processor ≡ Some processor → (processor_in_figures s j).weight ≡ weights_at s j
     → weights_at s' j + weight_there j (task_in_figures s id) ≡ weights_at s j
     → w ≡ cond b ((processor_in_figures s processor).weight - (task_in_figures s id).weight) (processor_in_figures s j).weight
@@ -159,7 +138,7 @@ joined-set s s' j u b gives is new old =
 
 -- where a purse is put for a task's own and is worth as much, each task has what it had
 worth-cond : (s : Figures) (id j : ℕ) (u : PurseLemmas.Purse) (b : Bool)
-    → ((b ≡ true) × (id ≡ j)) ⊎ ((b ≡ false) × (id ≢ j)) → worth (PurseLemmas.shared_at s) u ≡ PurseLemmas.uncapped s id
+    → Tells b (id ≡ j) (id ≢ j) → worth (PurseLemmas.shared_at s) u ≡ PurseLemmas.uncapped s id
     → worth (PurseLemmas.shared_at s) (cond b u (PurseLemmas.purse (task_in_figures s j))) ≡ PurseLemmas.uncapped s j
 worth-cond s id j u true (inl e) same = same ∙ ap (λ k. PurseLemmas.uncapped s k) e.1
 worth-cond s id j u false (inl e) same = absurd (cc)
@@ -190,7 +169,7 @@ left-one s id processor p t' h at shared weight nowhere same accrued =
     let inside : id < length s.tasks = in_table s id processor at in
     let gives : (j : ℕ) → PurseLemmas.shared_at s2 j ≡ PurseLemmas.shared_at s j = λ j. shared-with_processor s processor p j shared in
     let is : (j : ℕ) → PurseLemmas.purse (task_in_figures s2 j) ≡ cond (eqb id j) u (PurseLemmas.purse (task_in_figures s j)) =
-    λ j. set_reads PurseLemmas.purse s1 id j t' (eqb id j) inside (eqb_tells id j) in
+    λ j. task_set PurseLemmas.purse s1 id j t' (λ same. omega (arith, same, inside)) in
     record {
       sound = record {
         weights = λ j there.
@@ -198,7 +177,7 @@ left-one s id processor p t' h at shared weight nowhere same accrued =
             let gone : weight_there j t' ≡ 0 = weight-nowhere j t' nowhere in
             weights-left s s2 id processor j (eqb processor j) (processor_in_figures s2 j).weight (eqb_tells processor j) refl inside
             at (h.weights j there') (omega (arith, weights-set s1 id j t' inside, gone))
-            (set-there s processor j p (eqb processor j) there' (eqb_tells processor j)
+            (processor_set (λ (q : ProcessorFigures). q.weight) s processor j p (λ same. there')
             ∙ ap (λ w. cond (eqb processor j) w (processor_in_figures s j).weight) weight);
         joined = λ j. joined-set s s2 j u (eqb id j) gives (is j) (rw nowhere tt) (h.joined j);
         table = λ j. omega (arith, h.table j, task_kept (λ (v : TaskFigures). v.weight) s1 id j t' same);

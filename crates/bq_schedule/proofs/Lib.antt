@@ -1,4 +1,5 @@
 pub mod CountLemmas
+pub mod TestLemmas
 pub mod FrameLemmas
 pub mod ClockLemmas
 pub mod SliceTimeLemmas

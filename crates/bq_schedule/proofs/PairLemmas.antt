@@ -16,6 +16,7 @@ use Rattle.bq_schedule.specs.Slices.{ShownByAnswer, shown_by_answer}
 use Rattle.bq_schedule.specs.Steps.{time_at, change, figures}
 use Rattle.bq_schedule.specs.Switches.{why_left, is_start_at, is_stop_at, reported_starts, reported_stops, starts_reported_at, stops_reported_at}
 use Rattle.bq_schedule.specs.Laws.{IsShownWithin, IsOfProcessors, EndsStarts}
+use Rattle.bq_schedule.proofs.TestLemmas.{Tells}
 use Rattle.bq_schedule.proofs.SwitchLemmas.{Switches, ReportsRunning, ReportsSwitch, start_if, stop_if, begun-here, answer_reports, runs_here}
 
 -- starts and stops of one processor, of at most one
@@ -79,7 +80,7 @@ pairs-if false j processor at reason run u running running' stop start same ran 
 -- a switch pairs starts and stops at each processor, its own and the others
 pairs-there : (s s' : Figures) (reason : StopReason) (processor at : ℕ) (run : Option ℕ) (stop : Option Stop)
     (start : Option Start) (j : ℕ) (b : Bool)
-    → Switches s s' reason processor at run stop start → ((b ≡ true) × (processor ≡ j)) ⊎ ((b ≡ false) × (processor ≢ j))
+    → Switches s s' reason processor at run stop start → Tells b (processor ≡ j) (processor ≢ j)
     → ((i : ℕ) (st : Start) → ((i ≡ j) ⊎ (i ≡ processor)) → (processor_in_figures s i).running ≡ Some st → st.processor ≡ i)
     → Pairs j (processor_in_figures s j).running (processor_in_figures s' j).running stop start
 pairs-there s s' reason processor at run stop start j b t (inl same) here =

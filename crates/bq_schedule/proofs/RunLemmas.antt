@@ -1,5 +1,5 @@
 -- The runs that are reported are those that the slices make.
-use Rattle.std.proofs.Common.{◌≡◌, ◌≢◌, ℕ, ◌<◌, Bool, true, false, List, [], ◌∷◌, ◌++◌, length, Option, Some, None, refl, sym, ap, ◌∙◌, ◌⊎◌, inl, inr, eqb, ltb, cond, append-nil, append_assoc, arith, eqb-true}
+use Rattle.std.proofs.Common.{◌≡◌, ◌≢◌, ℕ, ◌<◌, Bool, true, false, List, [], ◌∷◌, ◌++◌, length, Option, Some, None, refl, sym, ap, ◌∙◌, inl, inr, eqb, ltb, cond, append-nil, append_assoc, arith, eqb-true}
 use Rattle.std.specs.Prelude.{option_to_list, ◌&&◌}
 use Rattle.std.proofs.lemmas.Bool.Decides.{eqb_tells}
 use Rattle.std.proofs.lemmas.List.{get_or-replicate}
@@ -13,6 +13,7 @@ use Rattle.bq_schedule.specs.Passing.{continues_run, joined_run, ended_run, proc
 use Rattle.bq_schedule.specs.Slices.{ShownByAnswer, shown_by_answer, runner, slice_of, slice_shown, slices, slices_at, is_slice_at, slice_joined, runs}
 use Rattle.bq_schedule.specs.Steps.{change, figures_after, figures}
 use Rattle.bq_schedule.specs.Laws.{IsShownWithin, IsOfProcessors, reported_if, reported_runs, ReportsRuns}
+use Rattle.bq_schedule.proofs.TestLemmas.{Tells}
 use Rattle.bq_schedule.proofs.FrameLemmas.{Works}
 use Rattle.bq_schedule.proofs.ClockLemmas.{Shows, shows-after, count-figures, within-figures, processor-read_at}
 use Rattle.bq_schedule.proofs.SliceTimeLemmas.{slice_seen, run_seen, seen-change, shown-seen}
@@ -149,7 +150,7 @@ same_runs reported reported' run run' xs xs' t r x h = record {
 reported-there : (count : ℕ) (past : History) (processor : ℕ) (s' : Figures) (x : ShownByAnswer) (run : Option Slice) (b : Bool)
     → IsOfProcessors count past → IsShownWithin count (Some x) → processor < count → Shows (figures count past) s' (Some x)
     → run ≡ run_seen (figures count past) (Some x) → eqb x.processor processor ≡ b
-    → ((b ≡ true) × (x.processor ≡ processor)) ⊎ ((b ≡ false) × (x.processor ≢ processor))
+    → Tells b (x.processor ≡ processor) (x.processor ≢ processor)
     → AreReportedRuns count processor past
     → AreRuns (reported_runs count processor past ++ cond b (option_to_list run) []) (processor_in_figures s' processor).run
     (slices_at processor past ++ option_to_list (at_only processor (slice_shown past (Some x))))

@@ -1,5 +1,5 @@
 -- The times of tasks and processors are the sums of their slices.
-use Rattle.std.proofs.Common.{◌≡◌, ◌≢◌, ℕ, ◌+◌, ◌-◌, ◌*◌, ◌^◌, ◌<◌, ◌≤◌, Bool, true, false, List, [], ◌∷◌, ◌++◌, length, get_or, Option, Some, None, refl, sym, ap, ◌∙◌, ◌⊎◌, inl, inr, get_or-set_same, get_or-set_other, eqb, ltb, cond, append-nil, suc, arith}
+use Rattle.std.proofs.Common.{◌≡◌, ◌≢◌, ℕ, ◌+◌, ◌-◌, ◌*◌, ◌^◌, ◌<◌, ◌≤◌, Bool, true, false, List, [], ◌∷◌, ◌++◌, length, get_or, Option, Some, None, refl, sym, ap, ◌∙◌, inl, inr, get_or-set_same, get_or-set_other, eqb, ltb, cond, append-nil, suc, arith}
 use Rattle.std.specs.Prelude.{slice_set, option_to_list, All}
 use Rattle.std.specs.List.{sum_by}
 use Rattle.std.proofs.lemmas.Bool.Decides.{eqb_tells}
@@ -19,6 +19,7 @@ use Rattle.bq_schedule.specs.Passing.{slice_between, slice_at, slice_length, fig
 use Rattle.bq_schedule.specs.Slices.{ShownByAnswer, shown_by_answer, clock_after, clock, slice_shown, slices, time_if, time_in, is_of, is_slice_at}
 use Rattle.bq_schedule.specs.Steps.{figures_after, figures}
 use Rattle.bq_schedule.specs.Laws.{IsShownWithin, IsOfProcessors}
+use Rattle.bq_schedule.proofs.TestLemmas.{Tells}
 use Rattle.bq_schedule.proofs.FrameLemmas.{Works, KeepsWorks, tasks-read_at, processors-read_at}
 use Rattle.bq_schedule.proofs.SliceTimeLemmas.{slice_seen, shown-seen}
 use Rattle.bq_schedule.proofs.ClockLemmas.{Shows, figures-clocks, shows-after, count-figures, within-figures, processor-read_at}
@@ -154,7 +155,7 @@ clocks-are-short count past few h =
 
 -- the time of a task rises by the slices that are of it
 task-charged : (s : Figures) (x : Slice) (id : ℕ) (b : Bool) → id < length s.tasks
-    → ((b ≡ true) × (x.task ≡ id)) ⊎ ((b ≡ false) × (x.task ≢ id))
+    → Tells b (x.task ≡ id) (x.task ≢ id)
     → (task_in_figures (figures_with_task s x.task (task_charged (task_in_figures s x.task) (x.to - x.from))) id).time
     ≡ cond b (saturating_sum (task_in_figures s id).time (x.to - x.from)) (task_in_figures s id).time
 task-charged s x id true inside (inl same) =
@@ -237,7 +238,7 @@ time_is_sum_of_slices count (m ∷ past) few h id inside =
 
 -- the busy time of a processor rises by the slices that are there
 busy-read_at : (processor now j : ℕ) (s : Figures) (b : Bool)
-    → j < length s.processors → ((b ≡ true) × (processor ≡ j)) ⊎ ((b ≡ false) × (processor ≢ j))
+    → j < length s.processors → Tells b (processor ≡ j) (processor ≢ j)
     → (cond b (processor_read processor (processor_in_figures s processor) now) (processor_in_figures s j)).busy
     ≡ cond b (saturating_sum (processor_in_figures s j).busy (slice_length (slice_at processor (processor_in_figures s processor) now)))
     (processor_in_figures s j).busy

@@ -1,5 +1,5 @@
 -- The starts and stops that are reported are those of the tasks that begin to run, and cease.
-use Rattle.std.proofs.Common.{◌≡◌, ◌≢◌, ℕ, ◌<◌, Bool, true, false, [], ◌∷◌, length, get_or, Option, Some, None, Result, Ok, Err, refl, sym, ap, ◌∙◌, ◌⊎◌, inl, inr, eqb, cond, subst, get_or-set_same, arith, ltb-true, eq-eqb}
+use Rattle.std.proofs.Common.{◌≡◌, ◌≢◌, ℕ, ◌<◌, Bool, true, false, [], ◌∷◌, length, get_or, Option, Some, None, Result, Ok, Err, refl, sym, ap, ◌∙◌, inl, inr, eqb, cond, subst, get_or-set_same, arith, ltb-true, eq-eqb}
 use Rattle.std.specs.Prelude.{IfSome, IsSomeAnd, unwrap_or, slice_set}
 use Rattle.std.specs.Option.{option_map}
 use Rattle.std.proofs.lemmas.Bool.Decides.{eqb_tells, nat_tests}
@@ -26,6 +26,7 @@ use Rattle.bq_schedule.specs.Slices.{ShownByAnswer, shown_by_reply, shown_by_ans
 use Rattle.bq_schedule.specs.Steps.{nothing, figures_counted, figures_taken, emptied, figures_decided, blocked, figures_pulled, performed, report_of_answer, time_at, is_there, figures_after, change, figures}
 use Rattle.bq_schedule.specs.Switches.{why_left}
 use Rattle.bq_schedule.specs.Laws.{IsShownWithin, IsOfProcessors, ReportsStarts, ReportsStops}
+use Rattle.bq_schedule.proofs.TestLemmas.{Tells}
 use Rattle.bq_schedule.proofs.FrameLemmas.{KeepsRunning, works-counted, works-leaves, works-taken, works-stopped, processors-begun_if, running-then, running-id, running-with_processor, running-counted, running-leaves, running-taken, running-read_at, runs-switched, who_is, count-read_at}
 use Rattle.bq_schedule.proofs.ClockLemmas.{figures-clocks, shows-performed, within-figures, shown_by_reply-none}
 
@@ -304,7 +305,7 @@ begun-there : (count : ℕ) (past : History) (processor now j task : ℕ) (run :
     (stop : Option Stop) (start : Option Start) (b : Bool)
     → IsOfProcessors count past → processor < count
     → Switches (figures count past) s' reason processor (time_at processor now (figures count past)) run stop start
-    → ((b ≡ true) × (processor ≡ j)) ⊎ ((b ≡ false) × (processor ≢ j)) → cond b run (runner j past) ≡ Some task
+    → Tells b (processor ≡ j) (processor ≢ j) → cond b run (runner j past) ≡ Some task
     → runner j past ≢ Some task
     → IsSomeAnd start (λ st. (st.processor ≡ j) × (st.task ≡ task))
 begun-there count past processor now j task run s' reason stop start true h w t (inl same) is new =
@@ -375,7 +376,7 @@ begun-here false processor at (Some id) u running st e before =
 -- where what ran at a processor had begun there, what runs after an answered event has too, by cases:
 here-there : (s s' : Figures) (reason : StopReason) (processor at : ℕ) (run : Option ℕ) (stop : Option Stop)
     (start : Option Start) (j : ℕ) (st : Start) (b : Bool)
-    → Switches s s' reason processor at run stop start → ((b ≡ true) × (processor ≡ j)) ⊎ ((b ≡ false) × (processor ≢ j))
+    → Switches s s' reason processor at run stop start → Tells b (processor ≡ j) (processor ≢ j)
     → ((processor_in_figures s j).running ≡ Some st → st.processor ≡ j) → (processor_in_figures s' j).running ≡ Some st
     → st.processor ≡ j
 here-there s s' reason processor at run stop start j st b t (inl same) before e =
@@ -472,7 +473,7 @@ ceased-there : (count : ℕ) (past : History) (processor now j task : ℕ) (run 
     (stop : Option Stop) (start : Option Start) (b : Bool)
     → IsOfProcessors count past → processor < count
     → Switches (figures count past) s' reason processor (time_at processor now (figures count past)) run stop start
-    → ((b ≡ true) × (processor ≡ j)) ⊎ ((b ≡ false) × (processor ≢ j)) → runner j past ≡ Some task
+    → Tells b (processor ≡ j) (processor ≢ j) → runner j past ≡ Some task
     → cond b run (runner j past) ≢ Some task
     → IsSomeAnd stop (λ sp. (sp.start.processor ≡ j) × (sp.start.task ≡ task))
 ceased-there count past processor now j task run s' reason stop start true h w t (inl same) ran new =

@@ -1,5 +1,5 @@
 -- Fair times rise by what readings give, and with what is left over they add up to the time in which tasks ran.
-use Rattle.std.proofs.Common.{◌≡◌, ◌≢◌, ℕ, ◌+◌, ◌-◌, ◌*◌, ◌^◌, ◌<◌, ◌≤◌, Bool, true, false, List, [], ◌∷◌, length, get_or, Option, Some, None, Result, Ok, Err, refl, sym, ap, ◌∙◌, subst, ◌⊎◌, inl, inr, eqb, leb, cond, zero, suc, replicate, get_or-set_same, get_or-set_other, arith}
+use Rattle.std.proofs.Common.{◌≡◌, ◌≢◌, ℕ, ◌+◌, ◌-◌, ◌*◌, ◌^◌, ◌<◌, ◌≤◌, Bool, true, false, List, [], ◌∷◌, length, get_or, Option, Some, None, Result, Ok, Err, refl, sym, ap, ◌∙◌, subst, inl, inr, eqb, leb, cond, zero, suc, replicate, get_or-set_same, get_or-set_other, arith}
 use Rattle.std.specs.Prelude.{slice_set, ℤ}
 use Rattle.std.specs.List.{sum_by}
 use Rattle.std.proofs.Math.Nat.{div-le_self, mul-div-le}
@@ -28,6 +28,7 @@ use Rattle.bq_schedule.specs.Slices.{ShownByAnswer, shown_by_reply, shown_by_ans
 use Rattle.bq_schedule.specs.Steps.{figures_counted, figures_admitted, waited_there, emptied, figures_taken, placed, figures_decided, blocked, figures_pulled, performed, time_at, is_there, figures_after, figures}
 use Rattle.bq_schedule.specs.FairTimes.{weight_there, weights_at, share, all_fair, all_unshared, all_busy}
 use Rattle.bq_schedule.specs.Laws.{IsShownWithin, IsOfProcessors, SharesOut, AddsUpFairTimes}
+use Rattle.bq_schedule.proofs.TestLemmas.{Tells, get_or-set_at}
 use Rattle.bq_schedule.proofs.FrameLemmas.{Works, KeepsWorks, works-id, works-then, processor_kept, task_kept, works-with_processor, works-with_task, works-counted, works-leaves, works-comes, works-switched, processors-read_at, count-read_at, tasks-read_at}
 use Rattle.bq_schedule.proofs.ClockLemmas.{count-figures, within-figures, shown_by_reply-none}
 use Rattle.bq_schedule.proofs.SumLemmas.{most_of_clocks, clocks-are-short}
@@ -77,7 +78,7 @@ full-kept s s' f k m = record {
 
 -- what a task has is little
 small_by : (s : Figures) (id : ℕ) (b : Bool) → IsFull s → IsShort s
-    → ((b ≡ true) × (length s.tasks ≤ id)) ⊎ ((b ≡ false) × (id < length s.tasks))
+    → Tells b (length s.tasks ≤ id) (id < length s.tasks)
     → PurseLemmas.uncapped s id ≤ 2 ^ 128 - 1
 small_by s id b f short (inl past) =
     omega (arith, ap (λ (t : TaskFigures). PurseLemmas.uncapped_of s t) (get_or_past s.tasks id unknown past.1))
@@ -270,7 +271,7 @@ given processor now s = parts_per_weight (slice_length (slice_at processor (proc
 -- a reading gives its part to each unit of weight at its processor, and nothing elsewhere, if the sum fits in 128 bits:
 shared-read : (processor now j : ℕ) (s : Figures) (b : Bool) → processor < length s.processors
     → PurseLemmas.shared_at s processor + given processor now s ≤ 2 ^ 128 - 1
-    → ((b ≡ true) × (processor ≡ j)) ⊎ ((b ≡ false) × (processor ≢ j))
+    → Tells b (processor ≡ j) (processor ≢ j)
     → (get_or (slice_set s.processors processor (processor_read processor (processor_in_figures s processor) now)) j unread).shared
     ≡ PurseLemmas.shared_at s j + cond b (given processor now s) 0
 shared-read processor now j s true inside fits (inl e) =
@@ -295,8 +296,8 @@ shared-read_at processor now j s inside fits =
 
 -- a task that is there is given its weight times as much
 worth-more_if : (f g : ℕ → ℕ) (processor k part : ℕ) (u : PurseLemmas.Purse) (b c : Bool)
-    → ((b ≡ true) × (processor ≡ k)) ⊎ ((b ≡ false) × (processor ≢ k))
-    → ((c ≡ true) × (k ≡ processor)) ⊎ ((c ≡ false) × (k ≢ processor)) → g k ≡ f k + cond b part 0 → u.joined ≤ f k
+    → Tells b (processor ≡ k) (processor ≢ k)
+    → Tells c (k ≡ processor) (k ≢ processor) → g k ≡ f k + cond b part 0 → u.joined ≤ f k
     → u.accrued + u.weight * (g k - u.joined) ≡ (u.accrued + u.weight * (f k - u.joined)) + cond c u.weight 0 * part
 worth-more_if f g processor k part u true true s t e h =
     let more : g k - u.joined ≡ (f k - u.joined) + part = omega (arith, e, h) in
@@ -373,26 +374,9 @@ pub record Reads (processor now : ℕ) (s : Figures) : Type 0 where
       → PurseLemmas.uncapped (figures_read processor now s) id
       ≡ PurseLemmas.uncapped s id + weight_there processor (task_in_figures s id) * given processor now s
 
--- a reading changes the busy time of its own processor, and of no other
-ahead-read : (processor now j : ℕ) (s : Figures) (b : Bool) → processor < length s.processors
-    → ((b ≡ true) × (processor ≡ j)) ⊎ ((b ≡ false) × (processor ≢ j))
-    → (processor_in_figures (figures_read processor now s) j).busy
-    ≡ cond b (processor_read processor (processor_in_figures s processor) now).busy (processor_in_figures s j).busy
-ahead-read processor now j s true inside (inl e) =
-    let q = processor_read processor (processor_in_figures s processor) now in
-    ap (λ l. (get_or l j unread).busy) (processors-read_at processor now s)
-    ∙ ap (λ k. (get_or (slice_set s.processors processor q) k unread).busy) (sym e.1)
-    ∙ ap (λ (p : ProcessorFigures). p.busy) (get_or-set_same s.processors processor q unread inside)
-ahead-read processor now j s false inside (inl e) = absurd (cc)
-ahead-read processor now j s true inside (inr e) = absurd (cc)
-ahead-read processor now j s false inside (inr e) =
-    ap (λ l. (get_or l j unread).busy) (processors-read_at processor now s)
-    ∙ ap (λ (p : ProcessorFigures). p.busy)
-    (get_or-set_other s.processors processor j (processor_read processor (processor_in_figures s processor) now) unread (λ h. e.1 (sym h)))
-
 -- after a reading no unit of weight was given more than its processor's tasks ran, there or elsewhere
 ahead-if : (s : Figures) (processor j shared busy part time busy' : ℕ) (b : Bool)
-    → ((b ≡ true) × (processor ≡ j)) ⊎ ((b ≡ false) × (processor ≢ j)) → IsFull s
+    → Tells b (processor ≡ j) (processor ≢ j) → IsFull s
     → shared ≡ PurseLemmas.shared_at s j + cond b part 0 → busy ≡ cond b busy' (processor_in_figures s j).busy
     → busy' ≡ (processor_in_figures s processor).busy + time → part ≤ time * parts_per_nanosecond
     → shared ≤ parts_per_nanosecond * busy
@@ -447,7 +431,8 @@ read_at-full processor now s f inside short =
         ahead = λ j.
             ahead-if s processor j (PurseLemmas.shared_at r j) (processor_in_figures r j).busy part time q.busy
             (eqb processor j) (eqb_tells processor j) f (shared-read_at processor now j s inside fits)
-            (ahead-read processor now j s (eqb processor j) inside (eqb_tells processor j)) busy little;
+            (ap (λ l. (get_or l j unread).busy) (processors-read_at processor now s)
+            ∙ get_or-set_at (λ (p : ProcessorFigures). p.busy) s.processors processor j _ unread (λ same. omega (arith, same, inside))) busy little;
       };
       raws = raws;
     }
@@ -477,7 +462,7 @@ is_short count past few h =
 
 -- at the opening nothing is there
 same_everywhere_if : {X : Type 0} (n i : ℕ) (x : X) (b : Bool)
-    → ((b ≡ true) × (length (replicate n x) ≤ i)) ⊎ ((b ≡ false) × (i < length (replicate n x)))
+    → Tells b (length (replicate n x) ≤ i) (i < length (replicate n x))
     → get_or (replicate n x) i x ≡ x
 same_everywhere_if n i x b (inl past) = get_or_past (replicate n x) i x past.1
 same_everywhere_if n i x b (inr inside) = get_or-replicate n i x x (omega (arith, inside.1, length-replicate n x))

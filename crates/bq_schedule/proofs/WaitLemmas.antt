@@ -1,6 +1,6 @@
 -- How long tasks wait, as pulls and starts tell it, is what the history says.
-use Rattle.std.proofs.Common.{◌≡◌, ◌≢◌, ℕ, ◌+◌, ◌-◌, ◌^◌, ◌<◌, ◌≤◌, Bool, true, false, not, [], ◌∷◌, length, get_or, Option, Some, None, Result, Ok, Err, refl, sym, ap, ◌∙◌, ◌⊎◌, inl, inr, eqb, cond, get_or-set_same, get_or-set_other, subst, zero-add, arith}
-use Rattle.std.specs.Prelude.{slice_set, ◌&&◌, ◌||◌, unwrap_or}
+use Rattle.std.proofs.Common.{◌≡◌, ◌≢◌, ℕ, ◌+◌, ◌-◌, ◌^◌, ◌<◌, ◌≤◌, Bool, true, false, not, [], ◌∷◌, length, Option, Some, None, Result, Ok, Err, refl, sym, ap, ◌∙◌, inl, inr, eqb, cond, subst, zero-add, arith}
+use Rattle.std.specs.Prelude.{◌&&◌, ◌||◌, unwrap_or}
 use Rattle.std.specs.Option.{option_map}
 use Rattle.std.proofs.lemmas.Bool.Decides.{eqb_tells, nat_tests}
 use Rattle.std.proofs.lemmas.List.{get_or-replicate, length-set}
@@ -30,8 +30,9 @@ use Rattle.bq_schedule.specs.Slices.{shown_by_reply, shown_by_answer, clock, is_
 use Rattle.bq_schedule.specs.Steps.{nothing, figures_counted, waited_there, figures_taken, pulled_report, moves_as, placed, figures_pulled, performed, report_of_answer, time_at, is_there, figures_after, change, figures}
 use Rattle.bq_schedule.specs.Waits.{gives_way, then_if, wait_begins, waits_since, wait_of_pull, wait_of_start, reported_wait}
 use Rattle.bq_schedule.specs.Laws.{IsShownWithin, IsOfProcessors, ReportsWaits, AddsUpWaits}
+use Rattle.bq_schedule.proofs.TestLemmas.{Tells}
 use Rattle.bq_schedule.proofs.CountLemmas.{saturating_sum-both}
-use Rattle.bq_schedule.proofs.FrameLemmas.{task_kept, who_is}
+use Rattle.bq_schedule.proofs.FrameLemmas.{task_kept, task_set, who_is}
 use Rattle.bq_schedule.proofs.ClockLemmas.{figures-clocks, within-figures, shown_by_reply-none}
 use Rattle.bq_schedule.proofs.SumLemmas.{tasks-figures}
 use Rattle.bq_schedule.proofs.WakeLemmas.{runs-counted, runs-block, runs-pull}
@@ -88,22 +89,12 @@ kept-block processor now id s =
     (both s r _ (of_processor s processor _) (kept-with_charged r (slice_at processor (processor_in_figures s processor) now)))
     (kept-leaves id (figures_read processor now s))
 
--- what is read of a task where one is set
-set-at : (f : TaskFigures → ℕ) (s : Figures) (i j : ℕ) (t : TaskFigures) (b : Bool)
-    → j < length s.tasks → ((b ≡ true) × (i ≡ j)) ⊎ ((b ≡ false) × (i ≢ j))
-    → f (task_in_figures (figures_with_task s i t) j) ≡ cond b (f t) (f (task_in_figures s j))
-set-at f s i j t true inside (inl e) =
-    ap (λ k. f (get_or (slice_set s.tasks k t) j unknown)) e.1 ∙ ap f (get_or-set_same s.tasks j t unknown inside)
-set-at f s i j t false inside (inl e) = absurd (cc)
-set-at f s i j t true inside (inr e) = absurd (cc)
-set-at f s i j t false inside (inr e) = ap f (get_or-set_other s.tasks i j t unknown (λ h. e.1 (sym h)))
-
 -- a count that holds stays where nothing more comes
 saturating_sum-none : (n : ℕ) → n ≤ 2 ^ 64 - 1 → n ≡ saturating_sum n 0
 saturating_sum-none n h = omega arith
 
 -- one task's count is so much further
-saturating_sum-at : (s : Figures) (i j more : ℕ) (b : Bool) → ((b ≡ true) × (i ≡ j)) ⊎ ((b ≡ false) × (i ≢ j))
+saturating_sum-at : (s : Figures) (i j more : ℕ) (b : Bool) → Tells b (i ≡ j) (i ≢ j)
     → (task_in_figures s j).waited ≤ 2 ^ 64 - 1
     → cond b (saturating_sum (task_in_figures s i).waited more) (task_in_figures s j).waited ≡ saturating_sum (task_in_figures s j).waited (cond b more 0)
 saturating_sum-at s i j more true (inl e) h = ap (λ k. saturating_sum (task_in_figures s k).waited more) e.1
@@ -118,7 +109,7 @@ since-comes id processor at s j inside =
     let l = figures_left id s in
     let k = kept-leaves id s in
     let q = figures_with_processor l processor (processor_joined (processor_in_figures l processor) (task_in_figures l id).weight) in
-    set-at (λ t. t.waiting_since) q id j _ (eqb id j) (omega (arith, k.tasks)) (eqb_tells id j) ∙ ap (λ n. cond (eqb id j) at n) (k.waiting_since j)
+    task_set (λ (t : TaskFigures). t.waiting_since) q id j _ (λ same. omega (arith, k.tasks)) ∙ ap (λ n. cond (eqb id j) at n) (k.waiting_since j)
 
 -- to come to a processor adds nothing to how long a task has waited
 waited-comes : (id processor at : ℕ) (s : Figures) (j : ℕ) → (task_in_figures (comes id processor at s) j).waited ≡ (task_in_figures s j).waited
@@ -149,7 +140,7 @@ waited-taken : (processor from at : ℕ) (task : Option ℕ) (s : Figures) (j : 
 waited-taken processor from at None s j inside h = saturating_sum-none (task_in_figures s j).waited h
 waited-taken processor from at (Some id) s j inside h =
     waited-comes id processor at (waited_there id at s) j
-    ∙ set-at (λ t. t.waited) s id j _ (eqb id j) inside (eqb_tells id j)
+    ∙ task_set (λ (t : TaskFigures). t.waited) s id j _ (λ same. inside)
     ∙ saturating_sum-at s id j (at - (task_in_figures s id).waiting_since) (eqb id j) (eqb_tells id j) h
 
 -- one that is preempted waits from then on, and one that blocks does not
@@ -165,7 +156,7 @@ since-stopped : (reason : StopReason) (at : ℕ) (running : Option Start) (s : F
 since-stopped Preempted at None s j inside = refl
 since-stopped Blocked at None s j inside = refl
 since-stopped Blocked at (Some old) s j inside = refl
-since-stopped Preempted at (Some old) s j inside = set-at (λ t. t.waiting_since) s old.task j _ (eqb old.task j) inside (eqb_tells old.task j)
+since-stopped Preempted at (Some old) s j inside = task_set (λ (t : TaskFigures). t.waiting_since) s old.task j _ (λ same. inside)
 
 -- a stop adds nothing to how long tasks have waited, and leaves as many tasks as before:
 waited-stopped : (reason : StopReason) (at : ℕ) (running : Option Start) (s : Figures) (j : ℕ)
@@ -196,7 +187,7 @@ waited-begun_if : (processor at : ℕ) (run : Option ℕ) (s : Figures) (j : ℕ
     ≡ saturating_sum (task_in_figures s j).waited (wait_of_start j (starts_as processor at run s))
 waited-begun_if processor at None s j inside h = saturating_sum-none (task_in_figures s j).waited h
 waited-begun_if processor at (Some id) s j inside h =
-    set-at (λ t. t.waited) s id j _ (eqb id j) inside (eqb_tells id j)
+    task_set (λ (t : TaskFigures). t.waited) s id j _ (λ same. inside)
     ∙ saturating_sum-at s id j (at - (task_in_figures s id).waiting_since) (eqb id j) (eqb_tells id j) h
 
 -- where there is said to be this number, it is this one

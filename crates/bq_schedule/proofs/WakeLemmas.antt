@@ -1,6 +1,6 @@
 -- The wakes that figures show are those of the history.
-use Rattle.std.proofs.Common.{◌≡◌, ◌≢◌, ℕ, ◌-◌, ◌<◌, Bool, true, false, not, [], ◌∷◌, length, get_or, Option, Some, None, Result, Ok, Err, refl, sym, ap, ◌∙◌, ◌⊎◌, inl, inr, eqb, cond, get_or-set_same, get_or-set_other, subst, arith, eqb-true, eq-eqb}
-use Rattle.std.specs.Prelude.{slice_set, ◌&&◌}
+use Rattle.std.proofs.Common.{◌≡◌, ◌≢◌, ℕ, ◌-◌, ◌<◌, Bool, true, false, not, [], ◌∷◌, length, Option, Some, None, Result, Ok, Err, refl, sym, ap, ◌∙◌, inl, inr, eqb, cond, subst, arith, eqb-true, eq-eqb}
+use Rattle.std.specs.Prelude.{◌&&◌}
 use Rattle.std.specs.Option.{option_map}
 use Rattle.std.proofs.lemmas.Bool.Decides.{eqb_tells, nat_tests}
 use Rattle.std.proofs.lemmas.List.{get_or-replicate, length-set}
@@ -27,7 +27,8 @@ use Rattle.bq_schedule.specs.Slices.{ShownByAnswer, shown_by_reply, shown_by_ans
 use Rattle.bq_schedule.specs.Wakes.{begins_as, begins_run, wake_end, awaited_after, awaited}
 use Rattle.bq_schedule.specs.Steps.{nothing, figures_counted, waited_there, figures_taken, placed, figures_decided, blocked, figures_pulled, performed, report_of_answer, time_at, is_there, figures_after, change, figures}
 use Rattle.bq_schedule.specs.Laws.{IsShownWithin, IsOfProcessors, ReportsLatencies}
-use Rattle.bq_schedule.proofs.FrameLemmas.{task_kept, running-counted, running-leaves, running-taken, running-read_at}
+use Rattle.bq_schedule.proofs.TestLemmas.{Tells}
+use Rattle.bq_schedule.proofs.FrameLemmas.{task_kept, task_set, running-counted, running-leaves, running-taken, running-read_at}
 use Rattle.bq_schedule.proofs.ClockLemmas.{figures-clocks, within-figures, shown_by_reply-none}
 use Rattle.bq_schedule.proofs.SumLemmas.{tasks-figures}
 
@@ -83,22 +84,12 @@ kept-stopped reason now None s = same s
 kept-stopped Blocked now (Some old) s = same s
 kept-stopped Preempted now (Some old) s = with_one s old.task _ refl
 
--- a task is set whose wake is one thing or the other
-set-one : (s : Figures) (i j : ℕ) (t : TaskFigures) (b : Bool) → j < length s.tasks → ((b ≡ true) × (i ≡ j)) ⊎ ((b ≡ false) × (i ≢ j)) →
-    (task_in_figures (figures_with_task s i t) j).woken_at ≡ cond b t.woken_at (task_in_figures s j).woken_at
-set-one s i j t true inside (inl e) =
-    ap (λ k. (get_or (slice_set s.tasks k t) j unknown).woken_at) e.1
-    ∙ ap (λ (u : TaskFigures). u.woken_at) (get_or-set_same s.tasks j t unknown inside)
-set-one s i j t false inside (inl e) = absurd (cc)
-set-one s i j t true inside (inr e) = absurd (cc)
-set-one s i j t false inside (inr e) = ap (λ (u : TaskFigures). u.woken_at) (get_or-set_other s.tasks i j t unknown (λ h. e.1 (sym h)))
-
 -- a task that begins to run has no wake that awaits a run any more, and the others keep theirs
 woken-begun_if : (processor now : ℕ) (run : Option ℕ) (s : Figures) (j : ℕ)
     → j < length s.tasks
     → (task_in_figures (begun_if processor now run s) j).woken_at ≡ cond (is_this j run) None (task_in_figures s j).woken_at
 woken-begun_if processor now None s j inside = refl
-woken-begun_if processor now (Some id) s j inside = set-one s id j _ (eqb id j) inside (eqb_tells id j)
+woken-begun_if processor now (Some id) s j inside = task_set (λ (t : TaskFigures). t.woken_at) s id j _ (λ same. inside)
 
 -- a condition with one that holds is that condition
 begins_alone : (b : Bool) → (b && true) ≡ b
@@ -110,8 +101,8 @@ differs : (a b : ℕ) → eqb a b ≡ false → a ≢ b
 differs a b e h = grind (arith, nat_tests)
 
 -- a task that runs now begins if another ran before, and does not if it ran itself:
-new_at : (j old id : ℕ) (b c : Bool) → ((b ≡ true) × (id ≡ j)) ⊎ ((b ≡ false) × (id ≢ j))
-    → ((c ≡ true) × (old ≡ j)) ⊎ ((c ≡ false) × (old ≢ j)) → old ≢ id
+new_at : (j old id : ℕ) (b c : Bool) → Tells b (id ≡ j) (id ≢ j)
+    → Tells c (old ≡ j) (old ≢ j) → old ≢ id
     → (b && not c) ≡ b
 new_at j old id true true (inl e) (inl f) ne = absurd (ne (f.1 ∙ sym e.1))
 new_at j old id true true (inl e) (inr f) ne = absurd (cc)
@@ -119,8 +110,8 @@ new_at j old id true true (inr e) f ne = absurd (cc)
 new_at j old id true false e f ne = refl
 new_at j old id false c e f ne = refl
 
-old_at : (j old id : ℕ) (b c : Bool) → ((b ≡ true) × (id ≡ j)) ⊎ ((b ≡ false) × (id ≢ j))
-    → ((c ≡ true) × (old ≡ j)) ⊎ ((c ≡ false) × (old ≢ j)) → old ≡ id
+old_at : (j old id : ℕ) (b c : Bool) → Tells b (id ≡ j) (id ≢ j)
+    → Tells c (old ≡ j) (old ≢ j) → old ≡ id
     → (b && not c) ≡ false
 old_at j old id true true e f same = refl
 old_at j old id true false (inl e) (inr f) same = absurd (f.1 (same ∙ e.1))
@@ -196,7 +187,7 @@ placed-awaits processor now d id to s j inside =
     let a = figures_counted processor d r in
     let c = comes id to at a in
     let k : KeepsWakes s c = both s r c (kept-read_at processor now s) (both r a c (of_processor r processor _) (kept-comes id to at a)) in
-    set-one c id j _ (eqb id j) (omega (arith, k.tasks)) (eqb_tells id j)
+    task_set (λ (t : TaskFigures). t.woken_at) c id j _ (λ same. omega (arith, k.tasks))
     ∙ ap (λ o. cond (eqb id j) (Some at) o) (k.at j)
     ∙ awaits-placed (eqb id j) at (task_in_figures s j).woken_at
 

@@ -1,5 +1,5 @@
 -- Slices and idle time fill the observed time.
-use Rattle.std.proofs.Common.{◌≡◌, ◌≢◌, ℕ, ◌+◌, ◌-◌, ◌<◌, ◌≤◌, Bool, true, false, [], ◌∷◌, length, Option, Some, None, refl, sym, ap, ◌∙◌, ◌⊎◌, inl, inr, eqb, ltb, cond, subst, arith}
+use Rattle.std.proofs.Common.{◌≡◌, ◌≢◌, ℕ, ◌+◌, ◌-◌, ◌<◌, ◌≤◌, Bool, true, false, [], ◌∷◌, length, Option, Some, None, refl, sym, ap, ◌∙◌, inl, inr, eqb, ltb, cond, subst, arith}
 use Rattle.std.proofs.lemmas.Bool.Decides.{eqb_tells}
 use Rattle.std.proofs.lemmas.List.{get_or-replicate}
 use Rattle.bq_disc.specs.OneProcessor.{reading}
@@ -13,6 +13,7 @@ use Rattle.bq_schedule.specs.Observed.{observed_time, idle_in}
 use Rattle.bq_schedule.specs.Slices.{ShownByAnswer, shown_by_answer}
 use Rattle.bq_schedule.specs.Steps.{figures_after, figures}
 use Rattle.bq_schedule.specs.Laws.{IsOfProcessors, window_since, FillsObservedTime}
+use Rattle.bq_schedule.proofs.TestLemmas.{Tells}
 use Rattle.bq_schedule.proofs.FrameLemmas.{Works, works, RunsAs}
 use Rattle.bq_schedule.proofs.ClockLemmas.{Shows, shows-after, count-figures, within-figures, processor-read_at}
 use Rattle.bq_schedule.proofs.ObservedLemmas.{window-observed}
@@ -75,7 +76,7 @@ runs_elsewhere (Some run) s s' processor j ne h = h.1 j ne
 -- an answered event leaves a processor filled, its own and each other:
 filled-there : (s s' : Figures) (x : ShownByAnswer) (j : ℕ) (b : Bool)
     → eqb x.processor j ≡ b → j < length s.processors → Shows s s' (Some x) → Filled (processor_in_figures s j)
-    → ((b ≡ true) × (x.processor ≡ j)) ⊎ ((b ≡ false) × (x.processor ≢ j))
+    → Tells b (x.processor ≡ j) (x.processor ≢ j)
     → Filled (processor_in_figures s' j)
 filled-there s s' x j true is inside h f (inl same) =
     let r = processor-read_at x.processor x.now j s inside in

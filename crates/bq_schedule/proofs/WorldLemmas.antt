@@ -1,5 +1,5 @@
 -- Each step of a world does to its clocks, and to who runs, what its answer shows.
-use Rattle.std.proofs.Common.{◌≡◌, ◌≢◌, ℕ, ◌<◌, Bool, true, false, List, [], ◌∷◌, length, get_or, Option, Some, None, Result, Ok, Err, refl, sym, ap, ◌∙◌, ◌⊎◌, inl, inr, get_or-set_same, get_or-set_other, eqb, cond, arith}
+use Rattle.std.proofs.Common.{◌≡◌, ◌≢◌, ℕ, ◌<◌, Bool, true, false, List, [], ◌∷◌, length, get_or, Option, Some, None, Result, Ok, Err, refl, sym, ap, ◌∙◌, inl, inr, get_or-set_same, get_or-set_other, eqb, cond, arith}
 use Rattle.std.specs.Prelude.{slice_set, unwrap_or, ◌==◌}
 use Rattle.std.specs.Option.{option_map}
 use Rattle.std.proofs.lemmas.Bool.Decides.{eqb_tells}
@@ -28,6 +28,7 @@ use Rattle.bq_parts.proofs.RefusalLemmas.{not_refused_is_there, first_refusal_pa
 use Rattle.bq_schedule.specs.Histories.{History}
 use Rattle.bq_schedule.specs.Slices.{ShownByAnswer, shown_by_reply, shown_by_answer, clock_after, clock, runner_after, runner}
 use Rattle.bq_schedule.specs.Laws.{IsShownWithin, IsOfProcessors, history_grown, IsCharged}
+use Rattle.bq_schedule.proofs.TestLemmas.{Tells}
 use Rattle.bq_schedule.proofs.FrameLemmas.{get_or-set_like}
 use Rattle.bq_schedule.proofs.ClockLemmas.{within_same}
 
@@ -68,7 +69,7 @@ same w = record { count = refl; last = λ j inside. refl; who = λ j inside. ref
 
 -- where a processor is set, its clock is what is read, who runs is who is reported, and the others keep both:
 last_there : (w : World) (i j now : ℕ) (p : Processor) (b : Bool)
-    → j < count_in w → p.running.last ≡ reading (last_at w i) now → ((b ≡ true) × (i ≡ j)) ⊎ ((b ≡ false) × (i ≢ j))
+    → j < count_in w → p.running.last ≡ reading (last_at w i) now → Tells b (i ≡ j) (i ≢ j)
     → (get_or (slice_set w.processors i p) j new_processor).running.last ≡ cond b (reading (last_at w j) now) (last_at w j)
 last_there w i j now p true inside l (inl e) =
     ap (λ k. (get_or (slice_set w.processors k p) j new_processor).running.last) e.1
@@ -80,7 +81,7 @@ last_there w i j now p false inside l (inr e) =
     ap (λ (q : Processor). q.running.last) (get_or-set_other w.processors i j p new_processor (λ h. e.1 (sym h)))
 
 who_there : (w : World) (i j : ℕ) (run : Option (Option ℕ)) (p : Processor) (b : Bool)
-    → j < count_in w → id_of p.running.current ≡ unwrap_or run (who_at w i) → ((b ≡ true) × (i ≡ j)) ⊎ ((b ≡ false) × (i ≢ j))
+    → j < count_in w → id_of p.running.current ≡ unwrap_or run (who_at w i) → Tells b (i ≡ j) (i ≢ j)
     → id_of (get_or (slice_set w.processors i p) j new_processor).running.current ≡ cond b (unwrap_or run (who_at w j)) (who_at w j)
 who_there w i j run p true inside l (inl e) =
     ap (λ k. id_of (get_or (slice_set w.processors k p) j new_processor).running.current) e.1
