@@ -1,5 +1,5 @@
 //! The values that an option does not take: quoted, with what is right, and with the word that was perhaps meant.
-ghost use Rattle.std.specs.Prelude.{◌≡◌, IfOk, string_bytes};
+ghost use Rattle.std.specs.Prelude.{IfOk, string_bytes};
 ghost use Rattle.bq_console.specs.Values.{RefusesValue, IsValueRefusal};
 
 use crate::fault::{WordsFault, words_fault};

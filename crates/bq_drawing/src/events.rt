@@ -1,6 +1,5 @@
 //! The events of a trace in the format that ui.perfetto.dev and chrome://tracing open, as text.
-ghost use Rattle.std.specs.Prelude.{◌≡◌, ◌++◌, IfOk, OnOk, codes, string_bytes};
-ghost use Rattle.std.specs.Fmt.{decimal};
+ghost use Rattle.std.specs.Prelude.{◌≡◌, ◌++◌, IfOk, OnOk, string_bytes};
 ghost use Rattle.bq_hooks.specs.Hooks.{hook_word};
 ghost use Rattle.bq_drawing.specs.Events.{beginning_text, counter_text, end_text, instant_text, overruled_text, run_event, task_args, track_text, tracks_text};
 

@@ -1,7 +1,6 @@
 //! What is known of registers and stack after an instruction, on the way to one of the slots that follow it.
 ghost use Rattle.bq_bpf.specs.declared.shape.TheConstants.{MAPS};
 ghost use Rattle.std.specs.Prelude.{◌<◌, ◌≤◌, ◌^◌, IsTrue, length};
-ghost use Rattle.bq_bpf.specs.Steps.{IsCounterCall};
 ghost use Rattle.bq_transfer.specs.Ready.{IsTransferred, WritesBelowFrame};
 
 use bq_bpf::MapShape;

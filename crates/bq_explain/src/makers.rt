@@ -1,5 +1,5 @@
 //! The instructions that made a register's value, by the ways of the control graph.
-ghost use Rattle.std.specs.Prelude.{◌+◌, ◌⊎◌, Bool, List, ◌≡◌, ◌<◌, ◌≤◌, ◌↔◌, ℕ, All, Contains, IfOk, IfSome, IsTrue, MatchBool, OnOk, false, length, slice_index_or, Some, true};
+ghost use Rattle.std.specs.Prelude.{◌+◌, ◌⊎◌, Bool, List, ◌≡◌, ◌<◌, ◌≤◌, ◌↔◌, ℕ, Contains, IfOk, IsTrue, MatchBool, OnOk, false, length, slice_index_or, Some, true};
 ghost use Rattle.bq_verify.specs.Passes.{IsAmongTargets, IsGraphSound};
 ghost use Rattle.bq_explain.specs.Makers.{AreLeading, AreOnTrail, IsMaker, IsOnTrail, HasRole, MakesAsked};
 ghost use Rattle.bq_explain.specs.declared.makers.Maker.{Maker as MakerValue};

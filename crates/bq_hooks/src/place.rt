@@ -1,5 +1,5 @@
 //! What a place policy is shown.
-ghost use Rattle.std.specs.Prelude.{◌≡◌, ◌≤◌, ◌<◌, ◌^◌, ◌%◌, ◌+◌, ◌*◌, min, length, take, Option};
+ghost use Rattle.std.specs.Prelude.{◌≡◌, ◌≤◌, ◌<◌, ◌+◌, ◌*◌, min, length, take, Option};
 ghost use Rattle.bq_hooks.specs.Contexts.{place_header, place_bytes_below, place_bytes_first, place_bytes_second, if_shown, if_any_shown};
 
 use crate::Loads;

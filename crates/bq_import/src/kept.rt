@@ -1,6 +1,6 @@
 //! A program whose jumps go forward, with only what control comes to, each instruction once.
 ghost use Rattle.bq_bpf.specs.declared.shape.TheConstants.{MAPS};
-ghost use Rattle.std.specs.Prelude.{◌≡◌, ◌<◌, ◌≤◌, ◌+◌, List, Option, length, true, slice_index, IfOk, IfErr, OnOk};
+ghost use Rattle.std.specs.Prelude.{◌≡◌, ◌<◌, ◌≤◌, ◌+◌, Option, length, true, slice_index, IfOk, IfErr, OnOk};
 ghost use Rattle.bq_insn.specs.declared.Insn.{Insn};
 ghost use Rattle.bq_insn.specs.Laws.{AllFit};
 ghost use Rattle.bq_insn.specs.Slots.{spread};

@@ -1,5 +1,5 @@
 //! What control comes to in a program whose jumps go forward.
-ghost use Rattle.std.specs.Prelude.{◌≡◌, ◌<◌, ◌↔◌, ◌+◌, ℕ, IfOk, IsTrue, Some, true, false, length};
+ghost use Rattle.std.specs.Prelude.{◌≡◌, ◌<◌, ◌+◌, IfOk, Some, true, false, length};
 ghost use Rattle.bq_verify.specs.Edges.{IsStart};
 ghost use Rattle.bq_import.specs.Faults.{AllForward, IsLinked};
 ghost use Rattle.bq_import.specs.Keeping.{AreFollowed, AreReached, IsMarked, LeadsForward};

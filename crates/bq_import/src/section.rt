@@ -12,7 +12,7 @@ use crate::reason::{SlotReason, reason_of};
 use bq_insn::Insn;
 use bq_insn::decode::decode;
 use bq_insn::fault::DecodeFault;
-use std::alloc::{AllocError, Global};
+use std::alloc::Global;
 use thiserror::Error;
 
 /// Why the bytes of a compiled program are not imported.

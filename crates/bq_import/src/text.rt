@@ -4,7 +4,6 @@ ghost use Rattle.std.specs.List.{list_all};
 ghost use Rattle.std.specs.String.{string_bytes};
 ghost use Rattle.bq_import.specs.declared.text.ImportRefusal.TheVariants.{OutOfMemory};
 ghost use Rattle.bq_object.specs.Objects.{IsObject};
-ghost use Rattle.bq_object.specs.Faults.{IsObjectFault};
 ghost use Rattle.bq_import.specs.Importing.{Imports};
 ghost use Rattle.bq_import.specs.Text.{IsImportedAs, IsNotedTextOf, IsImportRefused, IsTextOf, IsUnimported, is_hex_byte, maps_line, settings_marks};
 

@@ -7,6 +7,9 @@ use crate::framing::{parts, shapes_in};
 use bq_verify::PolicyForm;
 use std::alloc::Global;
 
+/// The length of the longest image, in bytes: a header of 44, with the shapes of eight maps, and 4096 slots of eight.
+pub const LONGEST_IMAGE: usize = 32_812;
+
 /// An image: the bytes of a program, with its hook, version and maps.
 #[derive(Drop)]
 pub struct Image {

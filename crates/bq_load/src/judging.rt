@@ -6,6 +6,7 @@ ghost use Rattle.bq_load.specs.declared.fault.LoadFault.{LoadFault as LoadFaultV
 
 use crate::fault::LoadFault;
 use crate::header::read_header;
+use crate::image::LONGEST_IMAGE;
 use arrayvec::ArrayVec;
 use bq_insn::SLOTS;
 
@@ -14,7 +15,7 @@ use bq_insn::SLOTS;
 pub fn judge(held: &[u8], past: usize, piece: &[u8]) -> Result<usize, LoadFault>
     ensures within { IfOk result (λ kept. kept ≤ length piece.now) }
     ensures counts { IfOk result (λ kept. past + (length piece.now - kept) < 2 ^ 64) }
-    ensures bounded { IfOk result (λ kept. length held.now ≤ 32812 → length held.now + kept ≤ 32812) }
+    ensures bounded { IfOk result (λ kept. length held.now ≤ LONGEST_IMAGE → length held.now + kept ≤ LONGEST_IMAGE) }
     ensures stands { IfOk result (λ kept. (bytes : List ℕ) → Holds held.now past bytes
         → Holds (held.now ++ take kept piece.now) (past + (length piece.now - kept)) (bytes ++ piece.now)) }
     ensures going { IfOk result (λ _. (bytes : List ℕ) (fault : LoadFaultValue) → Holds held.now past bytes → AreBytes (bytes ++ piece.now)

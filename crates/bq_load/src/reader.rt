@@ -10,7 +10,7 @@ ghost use Rattle.bq_load.specs.declared.fault.LoadFault.TheVariants.{OutOfMemory
 
 use crate::fault::LoadFault;
 use crate::header::read_header;
-use crate::image::{Image, read_image};
+use crate::image::{Image, LONGEST_IMAGE, read_image};
 use crate::judging::judge;
 use crate::loading::load;
 use bq_insn::fault::DecodeCause;
@@ -43,12 +43,13 @@ pub struct ImageReader {
 impl Model for ImageReader {
     ghost use Rattle.std.specs.Prelude.{◌≤◌, length};
     ghost use Rattle.bq_load.specs.Feeding.{Fed};
+    ghost use Rattle.bq_load.specs.declared.image.TheConstants.{LONGEST_IMAGE};
 
     ghost Value = { Fed };
 
     ghost view = { λ r. record { held = r.bytes.items; past = r.past; failed = r.failed } };
 
-    ghost invariant = { λ r. length r.bytes.items ≤ 32812 };
+    ghost invariant = { λ r. length r.bytes.items ≤ LONGEST_IMAGE };
 }
 
 impl ImageReader {
@@ -75,7 +76,7 @@ impl ImageReader {
             → HasFailed (bytes ++ piece.now) fault → result ≡ Err fault }
         ensures sticky { (fault : LoadFaultValue) → self.old.failed ≡ Some fault → (result ≡ Err fault) × (self.new ≡ self.old) }
         ensures memory { result ≡ Err OutOfMemory → self.new ≡ self.old }
-        ensures bounded { length self.new.held ≤ 32812 }
+        ensures bounded { length self.new.held ≤ LONGEST_IMAGE }
     {
         if let Some(fault) = self.failed {
             return Err(fault);

@@ -1,5 +1,5 @@
 //! Writes images.
-ghost use Rattle.std.specs.Prelude.{◌≡◌, ◌≤◌, ◌<◌, ◌*◌, ◌++◌, length, true, OnOk, OnErr};
+ghost use Rattle.std.specs.Prelude.{◌≡◌, ◌<◌, ◌*◌, ◌++◌, true, OnOk, OnErr};
 ghost use Rattle.std.specs.Int.{to_le_bytes};
 ghost use Rattle.bq_insn.specs.Appending.{StartsWith};
 ghost use Rattle.bq_insn.specs.Faults.{is_program_length};

@@ -1,5 +1,5 @@
 //! What helpers need their arguments to be, and which argument of a call is not shown to be that.
-ghost use Rattle.std.specs.Prelude.{◌≡◌, ◌↔◌, ◌≤◌, ℕ, IfOk, IsTrue, MatchBool, MatchOption, string_bytes};
+ghost use Rattle.std.specs.Prelude.{◌≡◌, ◌↔◌, ◌≤◌, ℕ, IsTrue, MatchBool, MatchOption};
 ghost use Rattle.bq_states.specs.Certainty.{Exact, Pointer, Scalar, CertaintyHoldsAt};
 ghost use Rattle.bq_needs.specs.Arguments.{GivesHelper, IsBad, IsCounter, IsArgumentShown, PointsTo, PointsToValue, Wants, argument_register, wanted_text};
 ghost use Rattle.bq_needs.specs.Operands.{known_in};

@@ -1,5 +1,5 @@
 //! What is known of one word, as text.
-ghost use Rattle.std.specs.Prelude.{◌≡◌, ◌-◌, ◌^◌, ◌<◌, ◌++◌, ℕ, IfOk, count_by, slice_get};
+ghost use Rattle.std.specs.Prelude.{◌≡◌, ◌-◌, ◌^◌, ◌<◌, ◌++◌, ℕ, IfOk, count_by};
 ghost use Rattle.std.specs.String.{string_bytes};
 ghost use Rattle.bq_states.specs.AbstractStates.{Describes};
 ghost use Rattle.bq_needs.specs.DescribedWords.{DescribesWord};

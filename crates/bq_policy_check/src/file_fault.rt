@@ -12,7 +12,6 @@ use bq_asm::AssemblyCause;
 use bq_asm_faults::{assembly_fault_text, with_nul_shown};
 use bq_console::{Lines, Name, Quoted};
 use bq_hooks::hook::{NO_HOOK, NO_VERSION};
-use bq_object::is_object;
 use bq_policy_file::{Head, HeadCause, Key, PolicyFault, SHAPES_FORM, read_policy};
 use bq_words::nearest;
 use serde_json::{Map, Value, put};

@@ -1,7 +1,7 @@
 //! The columns of a map, over an extent.
 ghost use Rattle.std.specs.Prelude.{◌≡◌, ◌<◌, ◌*◌, ◌^◌, ◌++◌, OnOk, string_bytes};
 ghost use Rattle.bq_report.specs.declared.grid.Grid.{Grid};
-ghost use Rattle.bq_report.specs.Maps.{grid_over, last_mark, ruler_mark_text, ruler_marks_text, moment_at, ruler_text, unit_for};
+ghost use Rattle.bq_report.specs.Maps.{grid_over, ruler_marks_text, moment_at, ruler_text, unit_for};
 
 use crate::amounts::{MomentText, Unit};
 use crate::extent::Extent;

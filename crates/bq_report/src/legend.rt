@@ -1,13 +1,11 @@
 //! The legend below a map's rows, and the signs of its columns.
-ghost use Rattle.std.specs.Prelude.{◌≡◌, ◌<◌, ◌++◌, ◌∷◌, [], ℕ, List, Contains, map, length, option_map, OnOk, string_bytes};
+ghost use Rattle.std.specs.Prelude.{◌≡◌, ◌<◌, ◌++◌, ◌∷◌, [], ℕ, List, map, length, option_map, OnOk, string_bytes};
 ghost use Rattle.bq_schedule.specs.declared.slice.Slice.{Slice};
 ghost use Rattle.bq_report.specs.declared.extent.Extent.{Extent};
 ghost use Rattle.bq_report.specs.declared.map_row.Column.{Column};
 ghost use Rattle.bq_report.specs.Legends.{GrowsAsNoted, Notes, NotesMore};
 ghost use Rattle.bq_report.specs.Maps.{IsColumnNote, IsHiddenNote, IsLegend, IsLegendLine, IsLineOfTask, RunsIn, behind_task, column_sign, letter_at, letter_if, lettered_task};
-ghost use Rattle.bq_report.specs.Names.{name_of};
 ghost use Rattle.bq_report.specs.Reports.{GrowsByPart, AreParts, IsPartIf};
-ghost use Rattle.bq_report.specs.AdmittedTasks.{admitted_place};
 
 use crate::admitted_tasks::AdmittedTasks;
 use crate::amounts::{MomentText, Unit};

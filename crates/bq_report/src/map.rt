@@ -1,9 +1,9 @@
 //! The map: a row for each processor, a column for each step of time, a letter for each task.
-ghost use Rattle.std.specs.Prelude.{◌≡◌, ◌++◌, ◌∷◌, [], ℕ, List, length, replicate, OnOk, OnErr, IfOk, string_bytes};
+ghost use Rattle.std.specs.Prelude.{◌≡◌, ◌++◌, [], List, length, replicate, OnOk, OnErr, string_bytes};
 ghost use Rattle.bq_report.specs.Legends.{DrawsRows};
 ghost use Rattle.bq_report.specs.MapRows.{RunsRow};
-ghost use Rattle.bq_report.specs.Maps.{DrawnRow, RowsHold, HoldsLast, HoldsPart, IsDrawn, IsDrawnBy, IsDrawnRow, IsHeldPart, IsMap, KeepsSettings, all_columns, columns_in, empty_map_row, map_row_text, rows_text, step_over};
-ghost use Rattle.bq_report.specs.Reports.{GrowsByPart, AreParts};
+ghost use Rattle.bq_report.specs.Maps.{RowsHold, HoldsLast, HoldsPart, IsDrawn, IsDrawnBy, IsHeldPart, IsMap, KeepsSettings, columns_in, empty_map_row, map_row_text, step_over};
+ghost use Rattle.bq_report.specs.Reports.{GrowsByPart};
 ghost use Rattle.bq_report.specs.AdmittedTasks.{with_admitted};
 
 use crate::admitted_tasks::AdmittedTasks;

@@ -3,7 +3,7 @@ ghost use Rattle.std.specs.Prelude.{◌≡◌, ◌≤◌};
 
 use crate::account::{CounterAccount, Counting};
 use crate::counters::Counters;
-use bq_bpf::{Board, CounterCall};
+use bq_bpf::Board;
 
 /// The counters of a machine, with the account of the seat that runs a program.
 #[derive(Drop)]

@@ -1,6 +1,6 @@
 //! How the words of two classes of places are related: by a sum, or by a comparison.
 
-ghost use Rattle.std.specs.Prelude.{◌≡◌, ◌≢◌, ◌^◌, ◌<◌, ℕ, IfSome, Some, length};
+ghost use Rattle.std.specs.Prelude.{◌≡◌, ◌≢◌, ◌<◌, ℕ, Some, length};
 ghost use Rattle.bq_ranges.specs.Within.{Within, NarrowsTo};
 ghost use Rattle.bq_states.specs.Relations.{AreRelated, IsRelatedBy, Relates};
 

@@ -1,6 +1,5 @@
 //! The tasks that are asked for by name.
 ghost use Rattle.std.specs.Prelude.{◌≡◌, ◌++◌, IfOk, OnOk, option_map, string_bytes};
-ghost use Rattle.bq_report.specs.Names.{name_of};
 ghost use Rattle.bq_timeline.specs.TasksByName.{is_named, lacking_note, meant_note, near_note, quoted_name, shown_letter, tasks_with_name, tasks_for_names, unknown_name_note, unknown_name_notes};
 
 use crate::meant::name_meant;

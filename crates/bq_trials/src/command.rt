@@ -1,5 +1,5 @@
 //! Commands to a run queue.
-ghost use Rattle.std.specs.Prelude.{◌≡◌, ◌<◌, ◌≤◌};
+ghost use Rattle.std.specs.Prelude.{◌<◌};
 ghost use Rattle.bq_weights.specs.VirtualTime.{IsWeight};
 
 /// A task that may enter, woken or pulled, by how far it was from the mark when it left.

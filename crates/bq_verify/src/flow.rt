@@ -19,7 +19,7 @@ use crate::subject::SubjectView;
 use crate::waiting::wait;
 use bq_bpf::MapShape;
 use bq_bpf::instruction::is_counter_call;
-use bq_insn::{Condition, Insn, SLOTS, Source, Width};
+use bq_insn::{Condition, Insn, Source, Width};
 use bq_states::abstract_state::{AbstractState, AbstractValue, ValueKind};
 use bq_states::learnt::learn_branch;
 use bq_states::registers::{FRAME_REGISTER, known, operand};

@@ -18,7 +18,6 @@ use crate::subject::SubjectView;
 use crate::targets::instruction;
 use crate::waiting::{arrive, nothing_waits};
 use bq_bpf::addresses::STACK_SIZE;
-use bq_insn::SLOTS;
 use bq_ranges::Range;
 use bq_states::abstract_state::{AbstractState, AbstractValue, StackPart, ValueKind};
 use bq_states::registers::{CONTEXT_REGISTER, FRAME_REGISTER, set_register};

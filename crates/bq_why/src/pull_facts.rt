@@ -5,7 +5,8 @@ ghost use Rattle.bq_disc.specs.Movable.{movable_to, ids};
 ghost use Rattle.bq_why.specs.Pulls.{Sees, own_pull_of};
 ghost use Rattle.bq_disc.specs.declared.movable.TheConstants.{MOST_NAMED};
 
-use crate::presence::{list_present, list_waiting};
+use crate::presence::{present, waiting};
+use bq_disc::discipline::WORTH_A_PULL;
 use bq_disc::limits::PROCESSORS;
 use bq_disc::{Entity, Movable, RunQueue};
 use bq_parts::Cpu;
@@ -41,7 +42,7 @@ impl PullFacts {
     pub fn own(&self) -> OwnPull
         ensures { result ≡ own_pull_of self.now.size self.now.other_size self.now.movable.count }
     {
-        if self.other_size.saturating_sub(self.size) < 2 {
+        if self.other_size.saturating_sub(self.size) < WORTH_A_PULL {
             OwnPull::TooFew
         } else if self.movable.count == 0 {
             OwnPull::NoneMayGo
