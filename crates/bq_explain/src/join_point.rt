@@ -11,8 +11,7 @@ use bq_insn::{Insn, SLOTS};
 use bq_states::abstract_state::{AbstractValue, ValueKind};
 use bq_states::places::shape_of;
 use bq_states::registers::known;
-use bq_verify::KnownStates;
-use bq_verify::graph_numbers::targets;
+use bq_verify::graph_numbers::find_targets;
 use bq_verify::targets::instruction;
 use std::alloc::{AllocError, Global};
 
@@ -108,7 +107,7 @@ fn is_edge(slots: &[Option<Insn>], from: usize, to: usize) -> bool
     let Some(insn) = instruction(slots, from) else {
         return false;
     };
-    let targets = targets(slots, from, insn);
+    let targets = find_targets(slots, from, insn);
     is_to(targets.next, to) || is_to(targets.jump, to)
 }
 

@@ -9,7 +9,7 @@ use crate::ways::{Walk, find_reaching, is_marked};
 use bq_bpf::instruction::destination;
 use bq_insn::{Insn, REGISTERS, SLOTS};
 use bq_needs::{Registers, read_registers};
-use bq_verify::graph_numbers::targets;
+use bq_verify::graph_numbers::find_targets;
 use bq_verify::targets::{Targets, instruction};
 use std::alloc::{AllocError, Global};
 
@@ -123,7 +123,7 @@ fn role_of(slots: &[Option<Insn>], register: u8, here: usize, leading: &[bool]) 
     let Some(insn) = instruction(slots, here) else {
         return Role::Off;
     };
-    let targets = targets(slots, here, insn);
+    let targets = find_targets(slots, here, insn);
     if !one_leads_on(leading, targets) {
         return Role::Off;
     }

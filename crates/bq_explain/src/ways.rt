@@ -7,7 +7,7 @@ use crate::makers::writes;
 use bq_insn::Insn;
 use bq_policy_file::PolicySource;
 use bq_verify::KnownStates;
-use bq_verify::graph_numbers::targets;
+use bq_verify::graph_numbers::find_targets;
 use bq_verify::targets::{Targets, instruction};
 use std::alloc::{AllocError, Global};
 
@@ -73,7 +73,10 @@ fn open_from(slots: &[Option<Insn>], states: &KnownStates, from: usize) -> Targe
             jump: None,
         };
     };
-    open_targets(targets(slots, from, insn), sides_of(states, from, insn))
+    open_targets(
+        find_targets(slots, from, insn),
+        sides_of(states, from, insn),
+    )
 }
 
 /// Keeps the targets on the sides that a run may take.

@@ -55,7 +55,7 @@ fn jump_slot(slots: &[Option<Insn>], slot: usize, insn: Insn) -> Option<usize>
 }
 
 /// The slots to which control may go from a slot.
-pub fn targets(slots: &[Option<Insn>], slot: usize, insn: Insn) -> Targets
+pub fn find_targets(slots: &[Option<Insn>], slot: usize, insn: Insn) -> Targets
     requires here { instruction_at slots.now slot ≡ Some insn }
     requires inside { slot < length slots.now }
     requires short { length slots.now ≤ SLOTS }
@@ -123,7 +123,7 @@ fn pass_on(slots: &[Option<Insn>], slot: usize, most: &mut [Option<u32>])
         return;
     };
     let count = before + calls(insn);
-    let targets = targets(slots, slot, insn);
+    let targets = find_targets(slots, slot, insn);
     raise(most, targets.next, count);
     raise(most, targets.jump, count);
 }
@@ -166,7 +166,7 @@ fn height(slots: &[Option<Insn>], slot: usize, heights: &[u32]) -> u32
     let Some(insn) = instruction(slots, slot) else {
         return 0;
     };
-    let targets = targets(slots, slot, insn);
+    let targets = find_targets(slots, slot, insn);
     let next = height_at(heights, targets.next);
     let jump = height_at(heights, targets.jump);
     1 + next.max(jump)

@@ -1,6 +1,6 @@
 use Rattle.bq_verify.specs.declared.targets.Targets.{Targets}
 use Rattle.bq_verify.proofs.EdgeLemmas.{leads_out}
-use Rattle.bq_verify.proofs.graph_numbers.targets.Goals as goal
+use Rattle.bq_verify.proofs.graph_numbers.find_targets.Goals as goal
 
 pub returns : goal.returns
 returns c =
