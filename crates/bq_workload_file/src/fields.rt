@@ -36,7 +36,7 @@ pub(crate) fn span(value: &Value, range: NumberRange) -> Option<u64>
 }
 
 /// A whole number in a range.
-fn number(value: &Value, range: NumberRange) -> Option<u64>
+fn read_number(value: &Value, range: NumberRange) -> Option<u64>
     ensures value { result ≡ number_in range.least range.greatest (view value.now) }
     ensures most { IfSome result (λ n. n ≤ range.greatest) }
 {
@@ -82,7 +82,7 @@ pub(crate) fn number_at<'a>(
 {
     match at(table, key) {
         None => Ok(default),
-        Some(value) => match number(value, range) {
+        Some(value) => match read_number(value, range) {
             Some(number) => Ok(number),
             None => Err(WorkloadCause::NoSuch {
                 key,
@@ -94,7 +94,7 @@ pub(crate) fn number_at<'a>(
 }
 
 /// Reads how often a task does its actions: for ever if the key is absent.
-pub(crate) fn loops(table: &Table) -> Result<Option<u64>, WorkloadCause<'_>>
+pub(crate) fn read_loops(table: &Table) -> Result<Option<u64>, WorkloadCause<'_>>
     ensures { result_ok result ≡ loops_of (get_member (codes "loops") (table_view table.now)) }
 {
     let range = NumberRange {
@@ -103,7 +103,7 @@ pub(crate) fn loops(table: &Table) -> Result<Option<u64>, WorkloadCause<'_>>
     };
     match at(table, "loops") {
         None => Ok(None),
-        Some(value) => match number(value, range) {
+        Some(value) => match read_number(value, range) {
             Some(number) => Ok(Some(number)),
             None => Err(WorkloadCause::NoSuch {
                 key: "loops",
@@ -127,7 +127,7 @@ fn nice_value(value: &Value) -> Option<i8>
 }
 
 /// The nice value of a task, 0 if the key is absent.
-pub(crate) fn nice(table: &Table) -> Result<i8, WorkloadCause<'_>>
+pub(crate) fn read_nice(table: &Table) -> Result<i8, WorkloadCause<'_>>
     ensures { result_ok result ≡ or_default (pos 0) read_nice (get_member (codes "nice") (table_view table.now)) }
 {
     match at(table, "nice") {
@@ -144,7 +144,11 @@ pub(crate) fn nice(table: &Table) -> Result<i8, WorkloadCause<'_>>
 }
 
 /// Reads the processors that a task may use: at least one of them is a processor of the machine.
-pub(crate) fn mask<'a>(table: &'a Table, all: u64, machine: u8) -> Result<u64, WorkloadCause<'a>>
+pub(crate) fn read_mask<'a>(
+    table: &'a Table,
+    all: u64,
+    machine: u8,
+) -> Result<u64, WorkloadCause<'a>>
     ensures { result_ok result ≡ or_default all (read_mask all) (get_member (codes "cpus") (table_view table.now)) }
 {
     let value = match at(table, "cpus") {
@@ -174,7 +178,7 @@ fn named(value: &Value) -> Option<u64>
 }
 
 /// The discipline by which processors choose, or the default if the key is absent.
-pub(crate) fn discipline(
+pub(crate) fn read_discipline(
     table: &Table,
     default: DisciplineName,
 ) -> Result<DisciplineName, WorkloadCause<'_>>
@@ -202,7 +206,7 @@ fn named_discipline(value: &Value) -> Option<DisciplineName>
 }
 
 /// How many processors there are, or the default if the key is absent.
-pub(crate) fn size(
+pub(crate) fn read_size(
     table: &Table,
     default: ProcessorCount,
 ) -> Result<ProcessorCount, WorkloadCause<'_>>
@@ -225,7 +229,7 @@ pub(crate) fn size(
 fn size_given(value: &Value) -> Option<ProcessorCount>
     ensures { result ≡ size_in (view value.now) }
 {
-    let number = number(
+    let number = read_number(
         value,
         NumberRange {
             least: 1,

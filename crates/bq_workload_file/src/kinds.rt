@@ -8,7 +8,7 @@ ghost use Rattle.bq_workload_file.specs.Workloads.{HasNumbers, IsKind, all_of};
 
 use crate::blame::{DocumentLocation, Trouble};
 use crate::doing::all_actions;
-use crate::fields::{loops, mask, name, nice, number_at, span_at};
+use crate::fields::{name, number_at, read_loops, read_mask, read_nice, span_at};
 use crate::tables::all_known;
 use crate::workload_cause::{NumberRange, WorkloadCause};
 use bq_disc::limits::{DEFAULT_SLICE, GREATEST_SLICE, LEAST_SLICE, TASKS};
@@ -75,11 +75,11 @@ fn all_numbers<'a>(table: &'a Table, processors: Processors) -> Result<Numbers, 
         greatest: LONGEST,
     };
     let count = number_at(table, "count", 1, counts)?;
-    let nice = nice(table)?;
-    let mask = mask(table, processors.all, processors.number)?;
+    let nice = read_nice(table)?;
+    let mask = read_mask(table, processors.all, processors.number)?;
     let slice = span_at(table, "slice", DEFAULT_SLICE, slices)?;
     let start = span_at(table, "start", 0, starts)?;
-    let loops = loops(table)?;
+    let loops = read_loops(table)?;
     Ok(Numbers {
         count: count as u16,
         nice,
@@ -91,7 +91,7 @@ fn all_numbers<'a>(table: &'a Table, processors: Processors) -> Result<Numbers, 
 }
 
 /// The kind that a table describes, by its number from 1. `names` are the names of all kinds.
-pub(crate) fn kind<'a>(
+pub(crate) fn read_kind<'a>(
     alloc: Global,
     table: &'a Table,
     number: usize,

@@ -6,7 +6,7 @@ ghost use Rattle.toml.specs.View.{table_view};
 ghost use Rattle.bq_workload_file.specs.Keys.{first_unknown, machine_keys, unknown_key};
 ghost use Rattle.bq_workload_file.specs.Workloads.{IsSetup};
 
-use crate::fields::{discipline, number_at, size, span_at};
+use crate::fields::{number_at, read_discipline, read_size, span_at};
 use crate::tables::all_known;
 use crate::workload_cause::{NumberRange, WorkloadCause};
 use bq_words::{DisciplineName, ProcessorCount};
@@ -61,8 +61,8 @@ pub(crate) fn setup(table: &Table) -> Result<Setup, WorkloadCause<'_>>
         least: 0,
         greatest: i64::MAX as u64,
     };
-    let discipline = discipline(table, DEFAULT.discipline)?;
-    let size = size(table, DEFAULT.size)?;
+    let discipline = read_discipline(table, DEFAULT.discipline)?;
+    let size = read_size(table, DEFAULT.size)?;
     let duration = span_at(table, "duration", DEFAULT.duration, time)?;
     let tick = span_at(table, "tick", DEFAULT.tick, time)?;
     let balance = span_at(table, "balance", DEFAULT.balance, time)?;

@@ -13,7 +13,7 @@ use crate::blame::{DocumentLocation, Trouble};
 use crate::changes::Changes;
 use crate::fault::{WorkloadFault, meaning, syntax};
 use crate::fields::name;
-use crate::kinds::{Processors, kind};
+use crate::kinds::{Processors, read_kind};
 use crate::setup::{absent, setup};
 use crate::tables::{all_known, at};
 use crate::workload_cause::{Wanted, WorkloadCause};
@@ -78,13 +78,13 @@ fn outline(document: &Table) -> Result<(Setup, &[Value]), Trouble<'_>>
     ensures some { IfOk result (λ p. 0 < length p.1.now) }
 {
     DocumentLocation::Document.locate(all_known(document, &DOCUMENT))?;
-    let machine = machine(document)?;
+    let machine = read_machine(document)?;
     let tables = DocumentLocation::Document.locate(tables(document))?;
     Ok((machine, tables))
 }
 
 /// The machine of a document.
-fn machine(document: &Table) -> Result<Setup, Trouble<'_>>
+fn read_machine(document: &Table) -> Result<Setup, Trouble<'_>>
     ensures { IfOk result (IsMachine (table_view document.now)) }
 {
     match at(document, "machine") {
@@ -177,7 +177,7 @@ fn kinds<'a>(
     let mut tasks: u16 = 0;
     for (index, value) in tables.iter().enumerate() {
         let table = DocumentLocation::Document.locate(table_at("task", value))?;
-        let kind = kind(alloc, table, index + 1, names, processors)?;
+        let kind = read_kind(alloc, table, index + 1, names, processors)?;
         tasks = match tasks.checked_add(kind.count) {
             Some(tasks) if tasks <= TASKS => tasks,
             _ => return Err(Trouble::At {

@@ -2,7 +2,7 @@
 use Rattle.std.proofs.Common.{◌∙◌}
 use Rattle.std.proofs.lemmas.Result.{err_from_is_err_and}
 use Rattle.bq_workload_file.proofs.KeyLemmas.{unknown_there-same}
-use Rattle.bq_workload_file.proofs.kinds.kind.Goals as goal
+use Rattle.bq_workload_file.proofs.kinds.read_kind.Goals as goal
 
 pub returns-in_err-numbers-clause-unknown : goal.returns-in_err-numbers-clause-unknown
 returns-in_err-numbers-clause-unknown c = λ key named unknown.
