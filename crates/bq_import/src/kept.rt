@@ -13,9 +13,9 @@ ghost use Rattle.bq_import.specs.declared.fault.Disorder.TheVariants.{OutOfMemor
 
 use crate::backward::Backward;
 use crate::fault::Disorder;
-use crate::linked::targets;
+use crate::linked::find_targets;
 use crate::order::{Ordered, turned};
-use crate::reached::reached;
+use crate::reached::find_reached;
 use crate::search::no_places;
 use bq_insn::Insn;
 use bq_verify::targets::instruction;
@@ -34,7 +34,7 @@ pub(crate) fn kept(alloc: Global, old: &[Option<Insn>], maps: usize) -> Result<O
     ensures numbers { IfOk result (λ kept. AllFit kept.insns.items) }
     ensures memory { IfErr result (λ e. e ≡ OutOfMemory) }
 {
-    let reached = reached(alloc, old)?;
+    let reached = find_reached(alloc, old)?;
     let mut keeping = Keeping {
         copy: Backward::new(alloc),
         places: no_places(alloc, old.len())?,
@@ -77,7 +77,7 @@ impl Keeping {
         let Some(insn) = instruction(old, slot) else {
             unreachable!()
         };
-        let targets = targets(old, slot, insn);
+        let targets = find_targets(old, slot, insn);
         self.copy
             .put(old, maps, self.places.as_slice(), slot, insn, targets)?;
         self.places[slot] = Some(self.copy.slots.len() - 1);

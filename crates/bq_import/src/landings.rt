@@ -7,7 +7,7 @@ ghost use Rattle.bq_import.specs.Faults.{IsLinked};
 ghost use Rattle.bq_import.specs.Lengths.{IsJump};
 ghost use Rattle.bq_import.specs.Search.{AreLandings, IsQueued, is_open};
 
-use crate::linked::targets;
+use crate::linked::find_targets;
 use bq_insn::Insn;
 use bq_verify::targets::{Targets, instruction};
 use std::alloc::{AllocError, Global};
@@ -24,7 +24,7 @@ struct Walk {
 }
 
 /// Marks the targets of those jumps that control may come to.
-pub fn landings(alloc: Global, slots: &[Option<Insn>]) -> Result<Vec<bool>, AllocError>
+pub fn find_landings(alloc: Global, slots: &[Option<Insn>]) -> Result<Vec<bool>, AllocError>
     requires { IsLinked slots.now }
     ensures { IfOk result (λ landings. AreLandings slots.now landings.items) }
 {
@@ -89,7 +89,7 @@ fn targets_of(slots: &[Option<Insn>], slot: usize) -> Targets
     let Some(insn) = instruction(slots, slot) else {
         return NOWHERE;
     };
-    targets(slots, slot, insn)
+    find_targets(slots, slot, insn)
 }
 
 const NOWHERE: Targets = Targets {

@@ -99,7 +99,7 @@ fn jump_slot(slots: &[Option<Insn>], slot: usize, insn: Insn) -> Option<usize>
 }
 
 /// Where control may go from a slot.
-pub fn targets(slots: &[Option<Insn>], slot: usize, insn: Insn) -> Targets
+pub fn find_targets(slots: &[Option<Insn>], slot: usize, insn: Insn) -> Targets
     requires here { instruction_at slots.now slot ≡ Some insn }
     requires inside { slot < length slots.now }
     requires linked { IsLinked slots.now }

@@ -17,7 +17,7 @@ ghost use Rattle.bq_import.specs.Searching.{IsDoneWith, IsSearchWithin};
 use crate::backward::Backward;
 use crate::fault::Disorder;
 use crate::kept::{composed, kept};
-use crate::landings::landings;
+use crate::landings::find_landings;
 use crate::linked::check;
 use crate::reached::goes_forward;
 use crate::search::Search;
@@ -71,7 +71,7 @@ fn order_slots(alloc: Global, slots: &[Option<Insn>], maps: usize) -> Result<Ord
     if goes_forward(slots) {
         return kept(alloc, slots, maps);
     }
-    let searched = searched(alloc, slots, maps)?;
+    let searched = search_order(alloc, slots, maps)?;
     kept_of(alloc, &searched)
 }
 
@@ -93,7 +93,7 @@ fn kept_of(alloc: Global, searched: &Ordered) -> Result<Ordered, Disorder>
 }
 
 /// The program of the slots in order, if some jump of it goes back.
-fn searched(alloc: Global, slots: &[Option<Insn>], maps: usize) -> Result<Ordered, Disorder>
+fn search_order(alloc: Global, slots: &[Option<Insn>], maps: usize) -> Result<Ordered, Disorder>
     requires linked { IsLinked slots.now }
     requires first { IsStart slots.now 0 }
     requires few { maps ≤ MAPS }
@@ -103,7 +103,7 @@ fn searched(alloc: Global, slots: &[Option<Insn>], maps: usize) -> Result<Ordere
     ensures numbers { IfOk result (λ ordered. AllFit ordered.insns.items) }
     ensures disorder { IfErr result (IsDisorder slots.now) }
 {
-    let landings = landings(alloc, slots)?;
+    let landings = find_landings(alloc, slots)?;
     let mut search = Search::new(alloc, slots)?;
     search.run(slots, maps, landings.as_slice())?;
     let ordered = turned(alloc, &search.copy)?;

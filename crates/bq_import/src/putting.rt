@@ -13,7 +13,7 @@ ghost use Rattle.bq_import.specs.Search.{AreClosed, AreTargets, AreCopyPlaces, H
 
 use crate::backward::Backward;
 use crate::fault::Disorder;
-use crate::linked::targets;
+use crate::linked::find_targets;
 use bq_insn::{Insn, SLOTS};
 use bq_verify::targets::{Targets, instruction};
 
@@ -131,7 +131,7 @@ impl Backward {
         let Some(insn) = instruction(old, slot) else {
             unreachable!()
         };
-        let targets = targets(old, slot, insn);
+        let targets = find_targets(old, slot, insn);
         self.missing_front(targets.next)
     }
 
@@ -156,7 +156,7 @@ impl Backward {
         let Some(insn) = instruction(old, slot) else {
             return Ok(());
         };
-        let targets = targets(old, slot, insn);
+        let targets = find_targets(old, slot, insn);
         self.put(old, maps, places, slot, insn, targets)
     }
 }

@@ -4,7 +4,7 @@ ghost use Rattle.bq_verify.specs.Edges.{IsStart};
 ghost use Rattle.bq_import.specs.Faults.{AllForward, IsLinked};
 ghost use Rattle.bq_import.specs.Keeping.{AreFollowed, AreReached, IsMarked, LeadsForward};
 
-use crate::linked::targets;
+use crate::linked::find_targets;
 use crate::search::none_open;
 use bq_insn::Insn;
 use bq_verify::targets::instruction;
@@ -34,14 +34,14 @@ fn leads_forward(old: &[Option<Insn>], slot: usize) -> bool
     let Some(insn) = instruction(old, slot) else {
         return true;
     };
-    match targets(old, slot, insn).jump {
+    match find_targets(old, slot, insn).jump {
         Some(to) => slot < to,
         None => true,
     }
 }
 
 /// The slots that control comes to.
-pub(crate) fn reached(alloc: Global, old: &[Option<Insn>]) -> Result<Vec<bool>, AllocError>
+pub(crate) fn find_reached(alloc: Global, old: &[Option<Insn>]) -> Result<Vec<bool>, AllocError>
     requires linked { IsLinked old.now }
     requires forward { AllForward old.now }
     requires first { IsStart old.now 0 }
@@ -69,7 +69,7 @@ fn follow(reached: &mut Vec<bool>, old: &[Option<Insn>], slot: usize)
     let Some(insn) = instruction(old, slot) else {
         unreachable!()
     };
-    let targets = targets(old, slot, insn);
+    let targets = find_targets(old, slot, insn);
     mark(reached, targets.next);
     mark(reached, targets.jump);
 }

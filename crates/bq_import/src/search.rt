@@ -13,7 +13,7 @@ ghost use Rattle.bq_import.specs.Searching.{IsAt, IsDoneWith, IsSearchWithin, Ke
 
 use crate::backward::Backward;
 use crate::fault::Disorder;
-use crate::linked::targets;
+use crate::linked::find_targets;
 use crate::putting::place_at;
 use bq_insn::Insn;
 use bq_verify::targets::{Targets, instruction};
@@ -83,7 +83,7 @@ impl Search {
         let Some(insn) = instruction(old, slot) else {
             unreachable!()
         };
-        let targets = targets(old, slot, insn);
+        let targets = find_targets(old, slot, insn);
         let Some(to) = self.missing(targets) else {
             return self.leave(old, maps, slot);
         };

@@ -150,7 +150,7 @@ fn imported_policy<'a>(
 {
     let ordered = ordered_for(alloc, settings, bytes)?;
     let sources = sources_of(alloc, &ordered, lines)?;
-    let marks = marks(alloc, settings)?;
+    let marks = spell_marks(alloc, settings)?;
     let listing = noted_listing(alloc, ordered.insns.as_slice(), sources.as_slice())?;
     let text = format!(in alloc; "{marks}{listing}")?;
     Ok(ImportedText { text, sources })
@@ -193,7 +193,7 @@ fn imported_bytes<'a>(
     ensures refused { IfErr result (IsUnimported bytes.now) }
 {
     let ordered = ordered_for(alloc, settings, bytes)?;
-    let marks = marks(alloc, settings)?;
+    let marks = spell_marks(alloc, settings)?;
     let program = listing(alloc, ordered.insns.as_slice())?;
     let text = format!(in alloc; "{marks}{program}")?;
     Ok(ImportedText {
@@ -219,7 +219,7 @@ fn ordered_for(
 }
 
 /// The lines that say what the program is for: comments to the assembler.
-fn marks(alloc: Global, settings: &ImportSettings) -> Result<String, AllocError>
+fn spell_marks(alloc: Global, settings: &ImportSettings) -> Result<String, AllocError>
     ensures { IfOk result (λ text. string_bytes text ≡ settings_marks settings.now) }
 {
     let maps = maps_line(alloc, &settings.maps)?;

@@ -31,8 +31,8 @@ kept-requires-clause-first c =
     let p = c.requires.program in
     subst (λ (s : List (Option Insn)). IsStart s 0) (sym p.1) ((spread_begins p.0).first (some_slots p.0 p.2))
 
-pub searched-requires-clause-first : goal.searched-requires-clause-first
-searched-requires-clause-first c =
+pub search_order-requires-clause-first : goal.search_order-requires-clause-first
+search_order-requires-clause-first c =
     let p = c.requires.program in
     subst (λ (s : List (Option Insn)). IsStart s 0) (sym p.1) ((spread_begins p.0).first (some_slots p.0 p.2))
 

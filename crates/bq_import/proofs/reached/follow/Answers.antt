@@ -23,5 +23,5 @@ returns c =
     let there : c.args.slot < length c.args.reached.now.items = grind (arith, room, inside) in
     let begun : is_open c.args.reached.now.items c.args.slot ≡ true =
     sym (get_or_read c.args.reached.now.items c.args.slot c.index.result.now there index false) ∙ yes in
-    followed c.args.old.now c.args.slot c.in-Some.insn c.targets-targets.result c.targets-targets.ensures c.requires.forward
+    followed c.args.old.now c.args.slot c.in-Some.insn c.find_targets-targets.result c.find_targets-targets.ensures c.requires.forward
     c.args.reached.now.items c.mark.new.reached.items c.mark-2.new.reached.items c.requires.before begun c.mark.ensures c.mark-2.ensures

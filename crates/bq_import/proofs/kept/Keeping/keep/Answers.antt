@@ -41,7 +41,7 @@ put-requires-clause-front c =
     let here : instruction_at c.args.old.now c.args.slot ≡ Some c.in-Some.insn = cc in
     next_in_front c.args.maps c.args.old.now c.args.reached.now c.args.slot now.copy.slots.items now.copy.origins.items
     now.places.items c.requires.found c.requires.keeping c.requires.linked c.requires.forward c.requires.linked.gaps begun
-    c.in-Some.insn here c.targets-targets.result c.targets-targets.ensures
+    c.in-Some.insn here c.find_targets-targets.result c.find_targets-targets.ensures
 
 pub returns-clause-ok : goal.returns-clause-ok
 returns-clause-ok c =

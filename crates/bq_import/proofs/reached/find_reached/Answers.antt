@@ -1,6 +1,6 @@
 use Rattle.std.proofs.Common.{arith}
 use Rattle.bq_import.proofs.KeepLemmas.{all_followed}
-use Rattle.bq_import.proofs.reached.reached.Goals as goal
+use Rattle.bq_import.proofs.reached.find_reached.Goals as goal
 
 pub returns : goal.returns
 returns c =

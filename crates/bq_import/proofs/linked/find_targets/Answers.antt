@@ -1,6 +1,6 @@
 use Rattle.bq_verify.specs.declared.targets.Targets.{Targets}
 use Rattle.bq_import.proofs.SearchLemmas.{are_targets}
-use Rattle.bq_import.proofs.linked.targets.Goals as goal
+use Rattle.bq_import.proofs.linked.find_targets.Goals as goal
 
 pub returns : goal.returns
 returns c =

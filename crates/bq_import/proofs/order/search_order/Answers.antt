@@ -7,7 +7,7 @@ use Rattle.bq_import.specs.Copies.{IsCopy}
 use Rattle.bq_import.proofs.OrderLemmas.{is_copy}
 use Rattle.bq_import.proofs.ProgramLemmas.{written_is_well_formed}
 use Rattle.bq_import.proofs.ReachLemmas.{wrong_by_search}
-use Rattle.bq_import.proofs.order.searched.Goals as goal
+use Rattle.bq_import.proofs.order.search_order.Goals as goal
 
 pub run-requires-clause-done : goal.run-requires-clause-done
 run-requires-clause-done c = c.in_ok-search.ensures.done c.args.maps
