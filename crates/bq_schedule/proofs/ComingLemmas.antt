@@ -14,12 +14,12 @@ use Rattle.bq_schedule.specs.FairTimes.{weight_there, weights_at}
 use Rattle.bq_schedule.proofs.TestLemmas.{Tells}
 use Rattle.bq_schedule.proofs.FrameLemmas.{task_kept, processor_set, task_set}
 use Rattle.bq_schedule.proofs.PurseLemmas
-use Rattle.bq_schedule.proofs.LeavingLemmas.{weight-here, weight-elsewhere, weight-nowhere, weights-few, weights-set, shared-with_processor, joined-set, raw-set, beyond_table, weight_at-le}
+use Rattle.bq_schedule.proofs.LeavingLemmas.{weight-here, weight-elsewhere, weight-nowhere, weights-few, weights-set, shared-with_processor, joined-set, uncapped-set, beyond_table, weight_at-le}
 
 -- each task has what it had, and all stays sound
 pub record Stays (s s' : Figures) : Type 0 where
   pub sound : PurseLemmas.IsSound s'
-  pub raws : (j : ℕ) → PurseLemmas.uncapped s' j ≡ PurseLemmas.uncapped s j
+  pub uncapped_after : (j : ℕ) → PurseLemmas.uncapped s' j ≡ PurseLemmas.uncapped s j
 
 -- where a task comes to a processor, the weight counted at each is again the sum of the weights there
 weights-joined : (s s' : Figures) (id processor j w : ℕ) (t' : TaskFigures) (b : Bool)
@@ -79,8 +79,8 @@ joined-inside s id processor p t' h inside at shared weight now_at same joined a
         table = λ j. omega (arith, h.table j, task_kept (λ (v : TaskFigures). v.weight) s1 id j t' same);
         ids = length-set s.tasks id t' ∙ h.ids;
       };
-      raws = λ j.
-          raw-set s s2 id j u gives (is j)
+      uncapped_after = λ j.
+          uncapped-set s s2 id j u gives (is j)
           (worth-here (PurseLemmas.shared_at s) u processor t'.processor now_at joined ∙ accrued ∙ sym had);
     }
 
@@ -125,7 +125,7 @@ joined-outside s id processor p t' h past shared weight =
         table = λ j. omega (arith, h.table j, ap (λ (v : TaskFigures). v.weight) (same j));
         ids = length-set s.tasks id t' ∙ h.ids;
       };
-      raws = λ j. PurseLemmas.raw-kept s s2 j gives (ap PurseLemmas.purse (same j));
+      uncapped_after = λ j. PurseLemmas.uncapped-kept s s2 j gives (ap PurseLemmas.purse (same j));
     }
 
 -- a task that is nowhere joins a processor, whether or not its id is in the table
@@ -171,8 +171,8 @@ admitted-inside s id t' h inside at now_at weight accrued =
         );
         ids = length-set s.tasks id t' ∙ h.ids;
       };
-      raws = λ j.
-          raw-set s s2 id j u (λ k. refl) (is j)
+      uncapped_after = λ j.
+          uncapped-set s s2 id j u (λ k. refl) (is j)
           (ap (λ o. PurseLemmas.worth_at (PurseLemmas.shared_at s) u o) now_at ∙ accrued ∙ sym had);
     }
 
@@ -191,7 +191,7 @@ admitted-outside s id t' h past =
         table = λ j. omega (arith, h.table j, ap (λ (v : TaskFigures). v.weight) (same j));
         ids = length-set s.tasks id t' ∙ h.ids;
       };
-      raws = λ j. PurseLemmas.raw-kept s s2 j (λ k. refl) (ap PurseLemmas.purse (same j));
+      uncapped_after = λ j. PurseLemmas.uncapped-kept s s2 j (λ k. refl) (ap PurseLemmas.purse (same j));
     }
 
 -- a task that is nowhere is admitted, whether or not its id is in the table

@@ -90,7 +90,7 @@ shared-with_processor s i p j e = processor_kept (λ (q : ProcessorFigures). q.s
 -- a task leaves its processor: it keeps what it has, and its weight goes
 pub record Leaves (id : ℕ) (s s' : Figures) : Type 0 where
   pub sound : PurseLemmas.IsSound s'
-  pub raws : (j : ℕ) → PurseLemmas.uncapped s' j ≡ PurseLemmas.uncapped s j
+  pub uncapped_after : (j : ℕ) → PurseLemmas.uncapped s' j ≡ PurseLemmas.uncapped s j
   pub nowhere : (task_in_figures s' id).processor ≡ None
 
 -- where a task leaves a processor, the weight counted at each is again the sum of the weights there
@@ -146,12 +146,12 @@ worth-cond s id j u true (inr e) same = absurd (cc)
 worth-cond s id j u false (inr e) same = refl
 
 -- one purse is another of the same worth
-pub raw-set : (s s' : Figures) (id j : ℕ) (u : PurseLemmas.Purse)
+pub uncapped-set : (s s' : Figures) (id j : ℕ) (u : PurseLemmas.Purse)
     → ((k : ℕ) → PurseLemmas.shared_at s' k ≡ PurseLemmas.shared_at s k)
     → PurseLemmas.purse (task_in_figures s' j) ≡ cond (eqb id j) u (PurseLemmas.purse (task_in_figures s j))
     → worth (PurseLemmas.shared_at s) u ≡ PurseLemmas.uncapped s id
     → PurseLemmas.uncapped s' j ≡ PurseLemmas.uncapped s j
-raw-set s s' id j u gives is same =
+uncapped-set s s' id j u gives is same =
     PurseLemmas.worth-same (PurseLemmas.shared_at s') (PurseLemmas.shared_at s) (PurseLemmas.purse (task_in_figures s' j))
     (task_in_figures s' j).processor gives
     ∙ ap (λ v. worth (PurseLemmas.shared_at s) v) is ∙ worth-cond s id j u (eqb id j) (eqb_tells id j) same
@@ -183,7 +183,7 @@ left-one s id processor p t' h at shared weight nowhere same accrued =
         table = λ j. omega (arith, h.table j, task_kept (λ (v : TaskFigures). v.weight) s1 id j t' same);
         ids = length-set s.tasks id t' ∙ h.ids;
       };
-      raws = λ j. raw-set s s2 id j u gives (is j) (ap (λ o. PurseLemmas.worth_at (PurseLemmas.shared_at s) u o) nowhere ∙ accrued);
+      uncapped_after = λ j. uncapped-set s s2 id j u gives (is j) (ap (λ o. PurseLemmas.worth_at (PurseLemmas.shared_at s) u o) nowhere ∙ accrued);
       nowhere = ap (λ (v : TaskFigures). v.processor) (get_or-set_same s.tasks id t' unknown inside) ∙ nowhere;
     }
 
@@ -191,7 +191,7 @@ left-one s id processor p t' h at shared weight nowhere same accrued =
 left-if : (s : Figures) (id : ℕ) (o : Option ℕ) → PurseLemmas.IsSound s → (task_in_figures s id).processor ≡ o
     → PurseLemmas.uncapped s id ≤ 2 ^ 128 - 1
     → Leaves id s (left_from id s o)
-left-if s id None h at small = record { sound = h; raws = λ j. refl; nowhere = at }
+left-if s id None h at small = record { sound = h; uncapped_after = λ j. refl; nowhere = at }
 left-if s id (Some processor) h at small =
     let t = task_in_figures s id in
     let is : PurseLemmas.uncapped s id ≡ t.earlier_fair_time + t.weight * (PurseLemmas.shared_at s processor - t.shared_at_arrival) =

@@ -152,10 +152,10 @@ worth-same f g u None h = refl
 worth-same f g u (Some processor) h = ap (λ n. u.accrued + u.weight * (n - u.joined)) (h processor)
 
 -- a task whose purse stays has what it had, where each processor gave the same
-pub raw-kept : (s s' : Figures) (id : ℕ) → ((j : ℕ) → shared_at s' j ≡ shared_at s j)
+pub uncapped-kept : (s s' : Figures) (id : ℕ) → ((j : ℕ) → shared_at s' j ≡ shared_at s j)
     → purse (task_in_figures s' id) ≡ purse (task_in_figures s id)
     → uncapped s' id ≡ uncapped s id
-raw-kept s s' id h e =
+uncapped-kept s s' id h e =
     worth-same (shared_at s') (shared_at s) (purse (task_in_figures s' id)) (task_in_figures s' id).processor h
     ∙ ap (λ (u : Purse). worth_at (shared_at s) u u.processor) e
 

@@ -76,21 +76,21 @@ abbrev pub clocks_of : Figures → ℕ
 clocks_of s = sum_by last_of s.processors
 
 -- a slice between two readings is no longer than what lies between them
-worth-le-rise : (processor from to : ℕ) (running : Option Start) (b : Bool)
+slice_between-le_rise : (processor from to : ℕ) (running : Option Start) (b : Bool)
     → ltb from to ≡ b → from ≤ to → time_of any (slice_between processor from to running) ≤ to - from
-worth-le-rise processor from to None b e h = omega arith
-worth-le-rise processor from to (Some start) true e h = rw e (omega arith)
-worth-le-rise processor from to (Some start) false e h = rw e (omega arith)
+slice_between-le_rise processor from to None b e h = omega arith
+slice_between-le_rise processor from to (Some start) true e h = rw e (omega arith)
+slice_between-le_rise processor from to (Some start) false e h = rw e (omega arith)
 
 -- a slice is no longer than its clock has risen
 slice-le-rise : (processor now : ℕ) (p : ProcessorFigures) → time_of any (slice_at processor p now) + p.last ≤ reading p.last now
 slice-le-rise processor now p =
-    omega (arith, worth-le-rise processor p.last (reading p.last now) p.running (ltb p.last (reading p.last now)) refl (omega arith))
+    omega (arith, slice_between-le_rise processor p.last (reading p.last now) p.running (ltb p.last (reading p.last now)) refl (omega arith))
 
 -- a reading raises all clocks together by no less than its slice
-clocks-read_at : (processor now : ℕ) (s : Figures) → processor < length s.processors
+clocks_of-read_at : (processor now : ℕ) (s : Figures) → processor < length s.processors
     → clocks_of s + time_of any (slice_at processor (processor_in_figures s processor) now) ≤ clocks_of (figures_read processor now s)
-clocks-read_at processor now s inside =
+clocks_of-read_at processor now s inside =
     let p = processor_in_figures s processor in
     omega (
       arith,
@@ -100,14 +100,14 @@ clocks-read_at processor now s inside =
     )
 
 -- what keeps the works keeps all clocks together
-clocks-kept : (s t : Figures) → KeepsWorks s t → clocks_of t ≡ clocks_of s
-clocks-kept s t h = sums_alike last_of t.processors s.processors h.count (λ j. ap (λ (w : Works). w.last) (h.at j))
+clocks_of-kept : (s t : Figures) → KeepsWorks s t → clocks_of t ≡ clocks_of s
+clocks_of-kept s t h = sums_alike last_of t.processors s.processors h.count (λ j. ap (λ (w : Works). w.last) (h.at j))
 
 -- an answered event raises all clocks together by no less than its slice
-clocks-shown : (s s' : Figures) (o : Option ShownByAnswer) → IsShownWithin (length s.processors) o → Shows s s' o
+clocks_of-shown : (s s' : Figures) (o : Option ShownByAnswer) → IsShownWithin (length s.processors) o → Shows s s' o
     → clocks_of s + time_of any (slice_seen s o) ≤ clocks_of s'
-clocks-shown s s' None w h = omega (arith, clocks-kept s s' h.0)
-clocks-shown s s' (Some x) w h = omega (arith, clocks-kept (figures_read x.processor x.now s) s' h.0, clocks-read_at x.processor x.now s w)
+clocks_of-shown s s' None w h = omega (arith, clocks_of-kept s s' h.0)
+clocks_of-shown s s' (Some x) w h = omega (arith, clocks_of-kept (figures_read x.processor x.now s) s' h.0, clocks_of-read_at x.processor x.now s w)
 
 -- all slices together are no longer than all clocks
 slices-le-clocks : (count : ℕ) (past : History) → IsOfProcessors count past → time_in any (slices past) ≤ clocks_of (figures count past)
@@ -119,7 +119,7 @@ slices-le-clocks count (m ∷ past) h =
     omega (
       arith,
       slices-le-clocks count past h.1,
-      clocks-shown s (figures_after s m.event m.answer) o w (shows-after s m.event m.answer w),
+      clocks_of-shown s (figures_after s m.event m.answer) o w (shows-after s m.event m.answer w),
       time_in-more any (slices past) (slice_shown past o),
       ap (time_of any) (shown-seen count past o h.1 h.0),
     )
@@ -143,9 +143,9 @@ abbrev pub most_of_clocks : ℕ
 most_of_clocks = 255 * LATEST
 
 -- all clocks together stay within that sum
-pub clocks-are-short : (count : ℕ) (past : History) → count ≤ 255 → IsOfProcessors count past
+pub clocks_of-le : (count : ℕ) (past : History) → count ≤ 255 → IsOfProcessors count past
     → clocks_of (figures count past) ≤ most_of_clocks
-clocks-are-short count past few h =
+clocks_of-le count past few h =
     let s = figures count past in
     let all : All (λ (p : ProcessorFigures). last_of p ≤ LATEST) s.processors =
     All-from_get_or (λ (p : ProcessorFigures). last_of p ≤ LATEST) s.processors unread (λ i inside.
@@ -213,7 +213,7 @@ fits-next chosen count past m few h =
       time_in-more chosen (slices past) (slice_shown past (shown_by_answer m.event m.answer)),
       time_in-le chosen (slices (m ∷ past)),
       slices-le-clocks count (m ∷ past) h,
-      clocks-are-short count (m ∷ past) few h,
+      clocks_of-le count (m ∷ past) few h,
     )
 
 -- the time of a task is the sum of its slices
@@ -249,21 +249,21 @@ busy-read_at processor now j s true inside (inr other) = absurd (cc)
 busy-read_at processor now j s false inside (inr other) = refl
 
 -- all slices of a reading are at its processor
-worth-none : (b : Bool) → ◌≡◌ {A = ℕ} (cond b 0 0) 0
-worth-none true = refl
-worth-none false = refl
+cond-none : (b : Bool) → ◌≡◌ {A = ℕ} (cond b 0 0) 0
+cond-none true = refl
+cond-none false = refl
 
-worth-some : (processor j from to : ℕ) (start : Start) (b : Bool) →
+time_of-some : (processor j from to : ℕ) (start : Start) (b : Bool) →
     time_of (is_slice_at j) (cond b (Some (record { processor = processor; task = start.task; from = from; to = to })) None)
     ≡ cond (eqb processor j) (slice_length (cond b (Some (record { processor = processor; task = start.task; from = from; to = to })) None)) 0
-worth-some processor j from to start true = refl
-worth-some processor j from to start false = sym (worth-none (eqb processor j))
+time_of-some processor j from to start true = refl
+time_of-some processor j from to start false = sym (cond-none (eqb processor j))
 
-worth-at : (processor j from to : ℕ) (running : Option Start)
+time_of-at : (processor j from to : ℕ) (running : Option Start)
     → time_of (is_slice_at j) (slice_between processor from to running)
     ≡ cond (eqb processor j) (slice_length (slice_between processor from to running)) 0
-worth-at processor j from to None = sym (worth-none (eqb processor j))
-worth-at processor j from to (Some start) = worth-some processor j from to start (ltb from to)
+time_of-at processor j from to None = sym (cond-none (eqb processor j))
+time_of-at processor j from to (Some start) = time_of-some processor j from to start (ltb from to)
 
 -- an answered event adds its slice to the busy time of its processor, and of no other, if the time fits in 64 bits
 busy-shown : (s s' : Figures) (o : Option ShownByAnswer) (j : ℕ) → j < length s.processors
@@ -272,7 +272,7 @@ busy-shown : (s s' : Figures) (o : Option ShownByAnswer) (j : ℕ) → j < lengt
 busy-shown s s' None j inside fits h = ap (λ (w : Works). w.busy) (h.0.at j) ∙ omega arith
 busy-shown s s' (Some x) j inside fits h =
     let p = processor_in_figures s x.processor in
-    let at = worth-at x.processor j p.last (reading p.last x.now) p.running in
+    let at = time_of-at x.processor j p.last (reading p.last x.now) p.running in
     let fits' : (processor_in_figures s j).busy + cond (eqb x.processor j) (slice_length (slice_at x.processor p x.now)) 0
     ≤ 2 ^ 64 - 1 = omega (arith, at, fits) in
     ap (λ (w : Works). w.busy) (h.0.at j)

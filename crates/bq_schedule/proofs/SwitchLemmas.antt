@@ -459,56 +459,56 @@ stop-shown count past None s' e stop start sp h w t is =
 stop-shown count past (Some x) s' e stop start sp h w t is = stop-run count past e x.processor x.now x.run s' stop start sp h w t is
 
 -- of what ran something is reported where it is another than runs now
-ceased-reported : (running : Option Start) (reason : StopReason) (at j task : ℕ) (stop : Option Stop)
+ceases_with-reported : (running : Option Start) (reason : StopReason) (at j task : ℕ) (stop : Option Stop)
     → stop ≡ stop_of reason at running → option_map (λ (x : Start). x.task) running ≡ Some task
     → ((st : Start) → running ≡ Some st → st.processor ≡ j)
     → IsSomeAnd stop (λ sp. (sp.start.processor ≡ j) × (sp.start.task ≡ task))
-ceased-reported None reason at j task stop is e here = cc
-ceased-reported (Some old) reason at j task stop is e here =
+ceases_with-reported None reason at j task stop is e here = cc
+ceases_with-reported (Some old) reason at j task stop is e here =
     let same : old.task ≡ task = cc in
     and_some stop _ (record { start = old; at = at; reason = reason }) is (here old refl, same)
 
 -- of each task that ceases to run a stop is reported, by cases:
-ceased-there : (count : ℕ) (past : History) (processor now j task : ℕ) (run : Option ℕ) (s' : Figures) (reason : StopReason)
+ceases_with-there : (count : ℕ) (past : History) (processor now j task : ℕ) (run : Option ℕ) (s' : Figures) (reason : StopReason)
     (stop : Option Stop) (start : Option Start) (b : Bool)
     → IsOfProcessors count past → processor < count
     → Switches (figures count past) s' reason processor (time_at processor now (figures count past)) run stop start
     → Tells b (processor ≡ j) (processor ≢ j) → runner j past ≡ Some task
     → cond b run (runner j past) ≢ Some task
     → IsSomeAnd stop (λ sp. (sp.start.processor ≡ j) × (sp.start.task ≡ task))
-ceased-there count past processor now j task run s' reason stop start true h w t (inl same) ran new =
+ceases_with-there count past processor now j task run s' reason stop start true h w t (inl same) ran new =
     let s = figures count past in
     let c = figures-clocks count past processor h w in
     let ran' : option_map (λ (x : Start). x.task) (processor_in_figures s processor).running ≡ Some task =
     c.1 ∙ ap (λ k. runner k past) same.1 ∙ ran in
     let off : is_run_by (processor_in_figures s processor).running run ≡ false =
     is_new (processor_in_figures s processor).running run (is_run_by (processor_in_figures s processor).running run) refl (λ e. new (sym e ∙ ran')) in
-    ceased-reported (processor_in_figures s processor).running reason (time_at processor now s) j task stop
+    ceases_with-reported (processor_in_figures s processor).running reason (time_at processor now s) j task stop
     (t.stops ∙ ap (λ v. cond v None (stop_of reason (time_at processor now s) (processor_in_figures s processor).running)) off)
     ran' (λ st e. runs_here count past h processor st w e ∙ same.1)
-ceased-there count past processor now j task run s' reason stop start false h w t (inl same) ran new = absurd (cc)
-ceased-there count past processor now j task run s' reason stop start true h w t (inr other) ran new = absurd (cc)
-ceased-there count past processor now j task run s' reason stop start false h w t (inr other) ran new = absurd (new ran)
+ceases_with-there count past processor now j task run s' reason stop start false h w t (inl same) ran new = absurd (cc)
+ceases_with-there count past processor now j task run s' reason stop start true h w t (inr other) ran new = absurd (cc)
+ceases_with-there count past processor now j task run s' reason stop start false h w t (inr other) ran new = absurd (new ran)
 
-ceased-run : (count : ℕ) (past : History) (processor now j task : ℕ) (o : Option (Option ℕ)) (s' : Figures) (reason : StopReason)
+ceases_with-run : (count : ℕ) (past : History) (processor now j task : ℕ) (o : Option (Option ℕ)) (s' : Figures) (reason : StopReason)
     (stop : Option Stop) (start : Option Start)
     → IsOfProcessors count past → processor < count
     → ReportsRunning (figures count past) s' reason processor (time_at processor now (figures count past)) o stop start
     → CeasesWith j task past (Some (record { processor = processor; now = now; run = o }))
     → IsSomeAnd stop (λ sp. (sp.start.processor ≡ j) × (sp.start.task ≡ task))
-ceased-run count past processor now j task None s' reason stop start h w t ceases =
+ceases_with-run count past processor now j task None s' reason stop start h w t ceases =
     absurd (ceases.1 (same-cond (eqb processor j) (runner j past) ∙ ceases.0))
-ceased-run count past processor now j task (Some run) s' reason stop start h w t ceases =
-    ceased-there count past processor now j task run s' reason stop start (eqb processor j) h w t (eqb_tells processor j) ceases.0 ceases.1
+ceases_with-run count past processor now j task (Some run) s' reason stop start h w t ceases =
+    ceases_with-there count past processor now j task run s' reason stop start (eqb processor j) h w t (eqb_tells processor j) ceases.0 ceases.1
 
-ceased-shown : (count : ℕ) (past : History) (o : Option ShownByAnswer) (s' : Figures) (e : Event) (stop : Option Stop)
+ceases_with-shown : (count : ℕ) (past : History) (o : Option ShownByAnswer) (s' : Figures) (e : Event) (stop : Option Stop)
     (start : Option Start) (j task : ℕ)
     → IsOfProcessors count past → IsShownWithin count o → ReportsSwitch (figures count past) s' e o stop start
     → CeasesWith j task past o
     → IsSomeAnd stop (λ sp. (sp.start.processor ≡ j) × (sp.start.task ≡ task))
-ceased-shown count past None s' e stop start j task h w t ceases = absurd (ceases.1 ceases.0)
-ceased-shown count past (Some x) s' e stop start j task h w t ceases =
-    ceased-run count past x.processor x.now j task x.run s' (why_left e) stop start h w t ceases
+ceases_with-shown count past None s' e stop start j task h w t ceases = absurd (ceases.1 ceases.0)
+ceases_with-shown count past (Some x) s' e stop start j task h w t ceases =
+    ceases_with-run count past x.processor x.now j task x.run s' (why_left e) stop start h w t ceases
 
 -- a stop is reported exactly when a task ceases to run
 pub reports_stops : ReportsStops
@@ -517,6 +517,6 @@ reports_stops count past m h =
     let s' = figures count (m ∷ past) in
     let c = change (figures count past) m.event m.answer in (
       λ processor task inside ceases.
-          ceased-shown count past o s' m.event c.stop c.start processor task h.1 h.0 (answer_reports count past m h) ceases,
+          ceases_with-shown count past o s' m.event c.stop c.start processor task h.1 h.0 (answer_reports count past m h) ceases,
       of_some c.stop _ (λ sp is. stop-shown count past o s' m.event c.stop c.start sp h.1 h.0 (answer_reports count past m h) is),
     )

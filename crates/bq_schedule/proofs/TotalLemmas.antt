@@ -31,20 +31,20 @@ use Rattle.bq_schedule.specs.Laws.{IsShownWithin, IsOfProcessors, SharesOut, Add
 use Rattle.bq_schedule.proofs.TestLemmas.{Tells, get_or-set_at}
 use Rattle.bq_schedule.proofs.FrameLemmas.{Works, KeepsWorks, works-id, works-then, processor_kept, task_kept, works-with_processor, works-with_task, works-counted, works-leaves, works-comes, works-switched, processors-read_at, count-read_at, tasks-read_at}
 use Rattle.bq_schedule.proofs.ClockLemmas.{count-figures, within-figures, shown_by_reply-none}
-use Rattle.bq_schedule.proofs.SumLemmas.{most_of_clocks, clocks-are-short}
+use Rattle.bq_schedule.proofs.SumLemmas.{most_of_clocks, clocks_of-le}
 use Rattle.bq_schedule.proofs.WindowLemmas.{figures_are_filled, IsFilled}
 use Rattle.bq_schedule.proofs.PurseLemmas
 use Rattle.bq_schedule.proofs.LeavingLemmas as Leaving
 use Rattle.bq_schedule.proofs.ComingLemmas as Coming
 
 -- all that tasks have
-abbrev pub all_raw : Figures → ℕ
-all_raw s = sum_by (PurseLemmas.uncapped_of s) s.tasks
+abbrev pub all_uncapped : Figures → ℕ
+all_uncapped s = sum_by (PurseLemmas.uncapped_of s) s.tasks
 
 -- what is had and what is left over is what was run, and no unit of weight was given more than its processor's tasks ran
 pub record IsFull (s : Figures) : Type 0 where
   pub sound : PurseLemmas.IsSound s
-  pub total : all_raw s + all_unshared s ≡ parts_per_nanosecond * all_busy s
+  pub total : all_uncapped s + all_unshared s ≡ parts_per_nanosecond * all_busy s
   pub ahead : (j : ℕ) → PurseLemmas.shared_at s j ≤ parts_per_nanosecond * (processor_in_figures s j).busy
 
 -- all busy times together stay within the greatest sum of clocks
@@ -71,7 +71,7 @@ full-kept s s' f k m = record {
     f.total,
     busy-kept s s' k,
     unshared-kept s s' k,
-    PurseLemmas.sums_like (PurseLemmas.uncapped_of s') (PurseLemmas.uncapped_of s) unknown s'.tasks s.tasks k.tasks m.raws,
+    PurseLemmas.sums_like (PurseLemmas.uncapped_of s') (PurseLemmas.uncapped_of s) unknown s'.tasks s.tasks k.tasks m.uncapped_after,
   );
   ahead = λ j. omega (arith, f.ahead j, ap (λ (w : Works). w.shared) (k.at j), ap (λ (w : Works). w.busy) (k.at j));
 }
@@ -90,15 +90,15 @@ small : (s : Figures) (id : ℕ) → IsFull s → IsShort s → PurseLemmas.unca
 small s id f short = small_by s id (leb (length s.tasks) id) f short (leb_tells (length s.tasks) id)
 
 -- where what a task has is little, its fair time is what it has
-fair-raw_if : (s : Figures) (t : TaskFigures) (o : Option ℕ)
+fair_of-uncapped_if : (s : Figures) (t : TaskFigures) (o : Option ℕ)
     → PurseLemmas.worth_at (PurseLemmas.shared_at s) (PurseLemmas.purse t) o ≤ 2 ^ 128 - 1
     → fair_at s t o ≡ PurseLemmas.worth_at (PurseLemmas.shared_at s) (PurseLemmas.purse t) o
-fair-raw_if s t None h = refl
-fair-raw_if s t (Some processor) h = omega (arith, h)
+fair_of-uncapped_if s t None h = refl
+fair_of-uncapped_if s t (Some processor) h = omega (arith, h)
 
 -- the fair time of a task is what it has, if all busy times are short
-fair-raw : (s : Figures) (id : ℕ) → IsFull s → IsShort s → fair_of s id ≡ PurseLemmas.uncapped s id
-fair-raw s id f short = fair-raw_if s (task_in_figures s id) (task_in_figures s id).processor (small s id f short)
+fair_of-uncapped : (s : Figures) (id : ℕ) → IsFull s → IsShort s → fair_of s id ≡ PurseLemmas.uncapped s id
+fair_of-uncapped s id f short = fair_of-uncapped_if s (task_in_figures s id) (task_in_figures s id).processor (small s id f short)
 
 -- a move leaves all full, and each task what it has
 pub record Goes (s s' : Figures) : Type 0 where
@@ -107,7 +107,7 @@ pub record Goes (s s' : Figures) : Type 0 where
 
 -- to change nothing is such a move, and so are two such moves one after the other:
 goes-id : (s : Figures) → Goes s s
-goes-id s = record { keeps = works-id s; goes = λ f short. record { sound = f.sound; raws = λ j. refl } }
+goes-id s = record { keeps = works-id s; goes = λ f short. record { sound = f.sound; uncapped_after = λ j. refl } }
 
 goes-then : (s t u : Figures) → Goes s t → Goes t u → Goes s u
 goes-then s t u a b = record {
@@ -116,7 +116,7 @@ goes-then s t u a b = record {
       let first = a.goes f short in
       let short' : IsShort t = omega (arith, short, busy-kept s t a.keeps) in
       let next = b.goes (full-kept s t f a.keeps first) short' in
-      record { sound = next.sound; raws = λ j. next.raws j ∙ first.raws j };
+      record { sound = next.sound; uncapped_after = λ j. next.uncapped_after j ∙ first.uncapped_after j };
 }
 
 -- what keeps works, purses and pots is such a move
@@ -125,7 +125,7 @@ goes-purses s s' w k = record {
   keeps = w;
   goes = λ f short. record {
     sound = PurseLemmas.sound-kept s s' k f.sound;
-    raws = λ j. PurseLemmas.raw-kept s s' j (λ i. ap (λ (q : PurseLemmas.Pot). q.shared) (k.pots i)) (k.purses j);
+    uncapped_after = λ j. PurseLemmas.uncapped-kept s s' j (λ i. ap (λ (q : PurseLemmas.Pot). q.shared) (k.pots i)) (k.purses j);
   };
 }
 
@@ -145,7 +145,7 @@ goes-emptied processor s = goes-purses s _ (works-with_processor s processor _ r
 goes-leaves : (id : ℕ) (s : Figures) → Goes s (figures_left id s)
 goes-leaves id s = record {
   keeps = works-leaves id s;
-  goes = λ f short. let l = Leaving.leaves-stays s id f.sound (small s id f short) in record { sound = l.sound; raws = l.raws };
+  goes = λ f short. let l = Leaving.leaves-stays s id f.sound (small s id f short) in record { sound = l.sound; uncapped_after = l.uncapped_after };
 }
 
 goes-comes : (id processor now : ℕ) (s : Figures) → Goes s (comes id processor now s)
@@ -154,7 +154,7 @@ goes-comes id processor now s = record {
   goes = λ f short.
       let l = Leaving.leaves-stays s id f.sound (small s id f short) in
       let c = Coming.joined-stays (figures_left id s) id processor now l.sound l.nowhere in
-      record { sound = c.sound; raws = λ j. c.raws j ∙ l.raws j };
+      record { sound = c.sound; uncapped_after = λ j. c.uncapped_after j ∙ l.uncapped_after j };
 }
 
 goes-admitted : (id : ℕ) (nice : ℤ) (s : Figures) → Goes s (figures_admitted id nice (figures_left id s))
@@ -163,7 +163,7 @@ goes-admitted id nice s = record {
   goes = λ f short.
       let l = Leaving.leaves-stays s id f.sound (small s id f short) in
       let c = Coming.admitted-stays (figures_left id s) id nice l.sound l.nowhere in
-      record { sound = c.sound; raws = λ j. c.raws j ∙ l.raws j };
+      record { sound = c.sound; uncapped_after = λ j. c.uncapped_after j ∙ l.uncapped_after j };
 }
 
 -- a switch to a task, or to none, is such a move
@@ -248,7 +248,7 @@ goes-after s e (Err r) h = record {
   keeps = record { at = λ j. refl; count = refl; tasks = refl; times = λ id. refl };
   goes = λ f short. record {
     sound = record { weights = f.sound.weights; joined = f.sound.joined; table = f.sound.table; ids = f.sound.ids };
-    raws = λ j. refl;
+    uncapped_after = λ j. refl;
   };
 }
 
@@ -321,11 +321,11 @@ worth-more f g processor part u (Some k) e h =
     (eqb_tells k processor) (e k) h
 
 -- a reading adds to what a task has its weight there times the part of each unit, if that part's sum fits
-raw-read_at : (processor now id : ℕ) (s : Figures) → PurseLemmas.IsSound s → processor < length s.processors
+uncapped-read_at : (processor now id : ℕ) (s : Figures) → PurseLemmas.IsSound s → processor < length s.processors
     → PurseLemmas.shared_at s processor + given processor now s ≤ 2 ^ 128 - 1
     → PurseLemmas.uncapped (figures_read processor now s) id
     ≡ PurseLemmas.uncapped s id + weight_there processor (task_in_figures s id) * given processor now s
-raw-read_at processor now id s h inside fits =
+uncapped-read_at processor now id s h inside fits =
     let r = figures_read processor now s in
     ap (λ (u : PurseLemmas.Purse). PurseLemmas.worth_at (PurseLemmas.shared_at r) u u.processor) (purse-read_at processor now s id)
     ∙ worth-more (PurseLemmas.shared_at s) (PurseLemmas.shared_at r) processor (given processor now s)
@@ -370,7 +370,7 @@ sound-read_at processor now s h inside fits =
 -- a reading, all of whose numbers fit
 pub record Reads (processor now : ℕ) (s : Figures) : Type 0 where
   pub full : IsFull (figures_read processor now s)
-  pub raws : (id : ℕ)
+  pub uncapped_after : (id : ℕ)
       → PurseLemmas.uncapped (figures_read processor now s) id
       ≡ PurseLemmas.uncapped s id + weight_there processor (task_in_figures s id) * given processor now s
 
@@ -388,10 +388,10 @@ ahead-if s processor j shared busy part time busy' true (inr e) f is now more le
 ahead-if s processor j shared busy part time busy' false (inr e) f is now more le = omega (arith, f.ahead j, is, now)
 
 -- a reading leaves all full, and gives each task its part by its weight there, if busy times stay short
-pub read_at-full : (processor now : ℕ) (s : Figures) → IsFull s → processor < length s.processors
+pub full-read_at : (processor now : ℕ) (s : Figures) → IsFull s → processor < length s.processors
     → IsShort (figures_read processor now s)
     → Reads processor now s
-read_at-full processor now s f inside short =
+full-read_at processor now s f inside short =
     let r = figures_read processor now s in
     let p = processor_in_figures s processor in
     let q = processor_read processor p now in
@@ -416,12 +416,12 @@ read_at-full processor now s f inside short =
     omega (arith, f.ahead processor, little, busy, short, busies, is-busy, part-of-all) in
     let unshared : q.unshared ≡ p.unshared + (time * parts_per_nanosecond - p.weight * part) =
     omega (arith, part-of-rest, f.total, short, busies, is-busy, part-of-all, busy) in
-    let raws : (id : ℕ) → PurseLemmas.uncapped r id ≡ PurseLemmas.uncapped s id + weight_there processor (task_in_figures s id) * part =
-    λ id. raw-read_at processor now id s f.sound inside fits in
-    let all : all_raw r ≡ all_raw s + weights_at s processor * part =
+    let uncapped_after : (id : ℕ) → PurseLemmas.uncapped r id ≡ PurseLemmas.uncapped s id + weight_there processor (task_in_figures s id) * part =
+    λ id. uncapped-read_at processor now id s f.sound inside fits in
+    let all : all_uncapped r ≡ all_uncapped s + weights_at s processor * part =
     PurseLemmas.sums_like (PurseLemmas.uncapped_of r)
     (λ (t : TaskFigures). PurseLemmas.uncapped_of s t + weight_there processor t * part) unknown r.tasks s.tasks
-    (tasks-read_at processor now s) raws
+    (tasks-read_at processor now s) uncapped_after
     ∙ sums_both (PurseLemmas.uncapped_of s) (weight_there processor) part s.tasks in
     let weights : p.weight * part ≡ weights_at s processor * part = ap (λ n. n * part) (f.sound.weights processor inside) in
     record {
@@ -434,7 +434,7 @@ read_at-full processor now s f inside short =
             (ap (λ l. (get_or l j unread).busy) (processors-read_at processor now s)
             ∙ get_or-set_at (λ (p : ProcessorFigures). p.busy) s.processors processor j _ unread (λ same. omega (arith, same, inside))) busy little;
       };
-      raws = raws;
+      uncapped_after = uncapped_after;
     }
 
 -- busy times are no longer than clocks
@@ -454,7 +454,7 @@ is_short count past few h =
     let s = figures count past in
     omega (
       arith,
-      clocks-are-short count past few h,
+      clocks_of-le count past few h,
       sums_le (λ (p : ProcessorFigures). p.busy) (λ (p : ProcessorFigures). p.last) s.processors (λ j inside.
           busy-le (processor_in_figures s j).first (processor_in_figures s j)
           (figures_are_filled count past j h (omega (arith, inside, count-figures count past h)))),
@@ -502,7 +502,7 @@ opening-full count =
 -- what an event gives and leaves
 pub record Rises (s s' : Figures) (o : Option ShownByAnswer) : Type 0 where
   pub full : IsFull s'
-  pub raws : (id : ℕ) → PurseLemmas.uncapped s' id ≡ PurseLemmas.uncapped s id + share s o id
+  pub uncapped_after : (id : ℕ) → PurseLemmas.uncapped s' id ≡ PurseLemmas.uncapped s id + share s o id
 
 -- an event adds to what each task has its share of the slice, and leaves all full, if what follows its reading is such a move
 rises : (s s' : Figures) (o : Option ShownByAnswer) → IsFull s → IsShort s → IsShort s'
@@ -510,16 +510,16 @@ rises : (s s' : Figures) (o : Option ShownByAnswer) → IsFull s → IsShort s �
     → Rises s s' o
 rises s s' None f short short' w g =
     let m = g.goes f short in
-    record { full = full-kept s s' f g.keeps m; raws = λ id. m.raws id ∙ omega arith }
+    record { full = full-kept s s' f g.keeps m; uncapped_after = λ id. m.uncapped_after id ∙ omega arith }
 rises s s' (Some x) f short short' w g =
     let r = figures_read x.processor x.now s in
     let short-r : IsShort r = omega (arith, short', busy-kept r s' g.keeps) in
-    let k = read_at-full x.processor x.now s f w short-r in
+    let k = full-read_at x.processor x.now s f w short-r in
     let m = g.goes k.full short-r in
     record {
       full = full-kept r s' k.full g.keeps m;
-      raws = λ id.
-          m.raws id ∙ k.raws id
+      uncapped_after = λ id.
+          m.uncapped_after id ∙ k.uncapped_after id
           ∙ ap (λ n.
           PurseLemmas.uncapped s id
           + weight_there x.processor (task_in_figures s id) * parts_per_weight (slice_length (slice_at x.processor (processor_in_figures s x.processor) x.now)) n)
@@ -547,15 +547,15 @@ shares_out count past m id few h =
     let s' = figures count (m ∷ past) in
     let f = figures_are_full count past few h.1 in
     let k = step count past m few h f in
-    fair-raw s' id k.full (is_short count (m ∷ past) few h) ∙ k.raws id
-    ∙ ap (λ n. n + share s (shown_by_answer m.event m.answer) id) (sym (fair-raw s id f (is_short count past few h.1)))
+    fair_of-uncapped s' id k.full (is_short count (m ∷ past) few h) ∙ k.uncapped_after id
+    ∙ ap (λ n. n + share s (shown_by_answer m.event m.answer) id) (sym (fair_of-uncapped s id f (is_short count past few h.1)))
 
 -- all fair times, and what was not shared out, are the time in which any task ran, in parts of a nanosecond
 pub adds_up_fair_times : AddsUpFairTimes
 adds_up_fair_times count past few h =
     let s = figures count past in
     let f = figures_are_full count past few h in
-    let fair : all_fair s ≡ all_raw s =
+    let fair : all_fair s ≡ all_uncapped s =
     PurseLemmas.sums_like (λ (t : TaskFigures). fair_at s t t.processor) (PurseLemmas.uncapped_of s) unknown s.tasks s.tasks refl
-    (λ j. fair-raw s j f (is_short count past few h)) in
+    (λ j. fair_of-uncapped s j f (is_short count past few h)) in
     omega (arith, fair, f.total)
