@@ -31,28 +31,28 @@ shown_is n (b ∷ text) h l =
     (λ i. if starts b parts.0 i then (if some i then [] else b ∷ take_chars (n - 1) text) else b ∷ take_chars n text) ∙ ap (λ t. b ∷ t) rest
 
 -- the fill is blanks
-fill_is : (align width : ℕ) (n : ℕ) → fill_text (format_spec 32 align 0 width 18446744073709551615) n ≡ replicate n 32
+fill_is : (align width : ℕ) (n : ℕ) → fill_text (format_spec 32 align 0 width (2 ^ 64 - 1)) n ≡ replicate n 32
 unfolding encode
 fill_is align width zero = refl
 fill_is align width (suc n) = ap (λ t. 32 ∷ t) (fill_is align width n)
 
 -- a text, and blanks behind it
 pub text_padded : (text : List ℕ) → list_all is_ascii text ≡ true → length text < 2 ^ 63
-    → styled_text (format_spec 32 1 0 32 18446744073709551615) text ≡ text ++ blanks_to 32 text
+    → styled_text (format_spec 32 1 0 32 (2 ^ 64 - 1)) text ≡ text ++ blanks_to 32 text
 unfolding padded
 text_padded text h l =
-    let s = format_spec 32 1 0 32 18446744073709551615 in
-    let shown : take_chars 18446744073709551615 text ≡ text = shown_is 18446744073709551615 text h (omega (arith, l)) in
-    let count : char_count (take_chars 18446744073709551615 text) ≡ length text = ap char_count shown ∙ count_is text h in
+    let s = format_spec 32 1 0 32 (2 ^ 64 - 1) in
+    let shown : take_chars (2 ^ 64 - 1) text ≡ text = shown_is (2 ^ 64 - 1) text h (omega (arith, l)) in
+    let count : char_count (take_chars (2 ^ 64 - 1) text) ≡ length text = ap char_count shown ∙ count_is text h in
     (λ i. shown i ++ fill_text s (32 - count i - 0))
     ∙ ap (λ n. text ++ fill_text s n) (let e : 32 - length text - 0 ≡ 32 - length text = omega arith in e)
     ∙ ap (λ t. text ++ t) (fill_is 1 32 (32 - length text))
 
 -- a number, and blanks before it
-pub number_padded : (n : ℕ) → styled_decimal (format_spec 32 3 0 4 18446744073709551615) n ≡ blanks_to 4 (decimal n) ++ decimal n
+pub number_padded : (n : ℕ) → styled_decimal (format_spec 32 3 0 4 (2 ^ 64 - 1)) n ≡ blanks_to 4 (decimal n) ++ decimal n
 unfolding padded_integral char_count
 number_padded n =
-    let s = format_spec 32 3 0 4 18446744073709551615 in
+    let s = format_spec 32 3 0 4 (2 ^ 64 - 1) in
     let digits = decimal n in
     let room = 4 - length digits - 0 - 0 in
     let fill = fill_text s room in

@@ -1,5 +1,5 @@
 -- What may still come at an instant once a task has done an action.
-use Rattle.std.proofs.Common.{◌≡◌, ℕ, suc, ◌+◌, ◌*◌, ◌/◌, ◌<◌, ◌≤◌, ◌^◌, Bool, true, false, List, [], ◌∷◌, ◌++◌, length, Option, Some, None, refl, sym, ap, ◌∙◌, arith, drop, max, min}
+use Rattle.std.proofs.Common.{◌≡◌, ℕ, suc, ◌+◌, ◌-◌, ◌*◌, ◌/◌, ◌<◌, ◌≤◌, ◌^◌, Bool, true, false, List, [], ◌∷◌, ◌++◌, length, Option, Some, None, refl, sym, ap, ◌∙◌, arith, drop, max, min}
 use Rattle.std.specs.Prelude.{◌&&◌, ◌||◌, ◌==◌, if◌then◌else◌, nat_le, nat_lt, option_and_then, slice_get}
 use Rattle.std.specs.List.{list_any}
 use Rattle.std.specs.Option.{option_map_or}
@@ -93,7 +93,7 @@ count-is kinds c =
 advanced-by_test : (kinds : List TaskKind) (c : TaskProgress) (b : Bool)
     → nat_le (action_count kinds c) (c.action + 1) ≡ b → list_any takes_time (kind_actions kinds c.kind) ≡ true
     → steps_ahead kinds (if b
-    then record c { action = 0; woken = 0; loops = min (c.loops + 1) 18446744073709551615 }
+    then record c { action = 0; woken = 0; loops = min (c.loops + 1) (2 ^ 64 - 1) }
     else record c { action = c.action + 1; woken = 0 })
     ≡ steps_until kinds 0 (drop (suc c.action) (kind_actions kinds c.kind) ++ kind_actions kinds c.kind)
 advanced-by_test kinds c true test h =

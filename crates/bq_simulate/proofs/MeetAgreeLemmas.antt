@@ -1,5 +1,5 @@
 -- World and accounts agree after each thing that is met.
-use Rattle.std.proofs.Common.{◌≡◌, ℕ, ◌+◌, ◌<◌, ◌≤◌, inl, inr, Bool, true, false, List, [], ◌∷◌, length, Option, Some, None, refl, sym, subst, ap, ◌∙◌, arith}
+use Rattle.std.proofs.Common.{◌≡◌, ℕ, ◌+◌, ◌-◌, ◌^◌, ◌<◌, ◌≤◌, inl, inr, Bool, true, false, List, [], ◌∷◌, length, Option, Some, None, refl, sym, subst, ap, ◌∙◌, arith}
 use Rattle.std.specs.Prelude.{◌==◌, Ok, min, nat_le, nat_lt, slice_get, if◌then◌else◌}
 use Rattle.std.specs.Option.{option_map_or}
 use Rattle.std.proofs.lemmas.Bool.{cases_eq, eqb-false}
@@ -300,7 +300,7 @@ pub advanced_state : (actions : ℕ) (c : TaskProgress) → (advanced actions c)
 advanced_state actions c =
     elim (nat_le actions (c.action + 1)) as (λ b.
     (if b
-    then record c { action = 0; woken = 0; loops = min (c.loops + 1) 18446744073709551615 }
+    then record c { action = 0; woken = 0; loops = min (c.loops + 1) (2 ^ 64 - 1) }
     else record c { action = c.action + 1; woken = 0 }).task_state
     ≡ c.task_state) [ true ↦ refl | false ↦ refl ]
 
@@ -309,7 +309,7 @@ pub advanced_home : (actions : ℕ) (c : TaskProgress) → (advanced actions c).
 advanced_home actions c =
     elim (nat_le actions (c.action + 1)) as (λ b.
     (if b
-    then record c { action = 0; woken = 0; loops = min (c.loops + 1) 18446744073709551615 }
+    then record c { action = 0; woken = 0; loops = min (c.loops + 1) (2 ^ 64 - 1) }
     else record c { action = c.action + 1; woken = 0 }).home
     ≡ c.home) [ true ↦ refl | false ↦ refl ]
 

@@ -1,5 +1,5 @@
 -- Whatever is done, each task stands at an action of its kind.
-use Rattle.std.proofs.Common.{◌≡◌, ℕ, suc, ◌+◌, ◌-◌, ◌<◌, ◌≤◌, inl, inr, Bool, true, false, List, [], ◌∷◌, ◌++◌, length, length-append, Option, Some, None, refl, sym, subst, ap, ◌∙◌, arith}
+use Rattle.std.proofs.Common.{◌≡◌, ℕ, suc, ◌+◌, ◌-◌, ◌^◌, ◌<◌, ◌≤◌, inl, inr, Bool, true, false, List, [], ◌∷◌, ◌++◌, length, length-append, Option, Some, None, refl, sym, subst, ap, ◌∙◌, arith}
 use Rattle.std.specs.Prelude.{if◌then◌else◌, min, nat_le, nat_lt, option_and_then, slice_get}
 use Rattle.std.specs.Option.{option_map_or}
 use Rattle.std.proofs.lemmas.Bool.{cases_eq, leb-false, ltb-true}
@@ -207,10 +207,10 @@ advanced_by_test : (w : Workload) → first_flaw w ≡ None → (task : ℕ) (c 
     → nat_le (action_count w.tasks.items c) (c.action + 1) ≡ b → StandsAtAction w.tasks.items task c
     → StandsAtAction w.tasks.items task
     (if b
-    then record c { action = 0; woken = 0; loops = min (c.loops + 1) 18446744073709551615 }
+    then record c { action = 0; woken = 0; loops = min (c.loops + 1) (2 ^ 64 - 1) }
     else record c { action = c.action + 1; woken = 0 })
 advanced_by_test w sound task c true test h =
-    let e : TaskProgress = record c { action = 0; woken = 0; loops = min (c.loops + 1) 18446744073709551615 } in
+    let e : TaskProgress = record c { action = 0; woken = 0; loops = min (c.loops + 1) (2 ^ 64 - 1) } in
     record { of_kind = h.of_kind; action = omega (arith, h.action); woken = λ number next. wake_counts w sound e number next }
 advanced_by_test w sound task c false test h =
     let e : TaskProgress = record c { action = c.action + 1; woken = 0 } in

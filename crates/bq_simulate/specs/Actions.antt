@@ -1,5 +1,5 @@
 -- What a task does next, and what becomes of it with that.
-use Rattle.std.specs.Prelude.{◌≡◌, ℕ, ◌+◌, ◌≤◌, ◌<◌, if◌then◌else◌, nat_lt, List, Option, Some, None, length, slice_get, min, sum_by, take, option_and_then}
+use Rattle.std.specs.Prelude.{◌≡◌, ℕ, ◌+◌, ◌-◌, ◌^◌, ◌≤◌, ◌<◌, if◌then◌else◌, nat_lt, List, Option, Some, None, length, slice_get, min, sum_by, take, option_and_then}
 use Rattle.std.specs.Option.{option_map_or}
 use Rattle.rand_pcg.specs.Lcg.{Lcg}
 use Rattle.bq_workload.specs.declared.action.Action.{Action}
@@ -60,7 +60,7 @@ resting task_state progress = record (phase_begun 0 progress) { task_state = tas
 
 -- a task sleeps until its timer wakes it after this length, as far as 64 bits count
 abbrev pub asleep_for : ℕ → ℕ → TaskProgress → TaskProgress
-asleep_for length now progress = record (resting Asleep progress) { timer = min (now + length) 18446744073709551615 }
+asleep_for length now progress = record (resting Asleep progress) { timer = min (now + length) (2 ^ 64 - 1) }
 
 -- a task takes up the action at an instant; `length` is how long it lasts, if it is a run or a sleep. Only a task that runs has
 -- a phase afterwards

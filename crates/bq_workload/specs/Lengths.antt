@@ -1,5 +1,5 @@
 -- Which lengths there are, and which actions take time.
-use Rattle.std.specs.Prelude.{ℕ, Bool, true, false, ◌&&◌, nat_le}
+use Rattle.std.specs.Prelude.{ℕ, ◌-◌, ◌^◌, Bool, true, false, ◌&&◌, nat_le}
 use Rattle.bq_workload.specs.declared.action.Length.{Length}
 use Rattle.bq_workload.specs.declared.action.Length.TheVariants.{Fixed, Uniform, Exponential}
 use Rattle.bq_workload.specs.declared.action.Action.{Action}
@@ -7,7 +7,7 @@ use Rattle.bq_workload.specs.declared.action.Action.TheVariants.{Run, Sleep, Wai
 
 -- the longest length, in nanoseconds
 abbrev pub longest : ℕ
-longest = 281474976710655
+longest = 2 ^ 48 - 1
 
 -- at least 1 and at most the longest
 abbrev pub is_long : ℕ → Bool

@@ -1,5 +1,5 @@
 -- How far a task has come: its actions and rounds, its run phase, its timer.
-use Rattle.std.specs.Prelude.{ℕ, ◌+◌, ◌-◌, ◌==◌, Bool, true, false, not, ◌&&◌, if◌then◌else◌, min, nat_le, nat_lt}
+use Rattle.std.specs.Prelude.{ℕ, ◌+◌, ◌-◌, ◌^◌, ◌==◌, Bool, true, false, not, ◌&&◌, if◌then◌else◌, min, nat_le, nat_lt}
 use Rattle.bq_workload.specs.declared.progress.TaskProgress.{TaskProgress}
 use Rattle.bq_workload.specs.declared.progress.TaskState.{TaskState}
 use Rattle.bq_workload.specs.declared.progress.TaskState.TheVariants.{Asleep, Runnable}
@@ -12,7 +12,7 @@ fresh_task kind home start = record { kind = kind; action = 0; woken = 0; loops 
 -- are counted as far as 64 bits count
 abbrev pub advanced : ℕ → TaskProgress → TaskProgress
 advanced actions progress =
-    if nat_le actions (progress.action + 1) then record progress { action = 0; woken = 0; loops = min (progress.loops + 1) 18446744073709551615 } else record progress { action = progress.action + 1; woken = 0 }
+    if nat_le actions (progress.action + 1) then record progress { action = 0; woken = 0; loops = min (progress.loops + 1) (2 ^ 64 - 1) } else record progress { action = progress.action + 1; woken = 0 }
 
 -- a phase of this length begins
 abbrev pub phase_begun : ℕ → TaskProgress → TaskProgress
@@ -28,7 +28,7 @@ migrates_to processor progress = progress.has_run && not (progress.home == proce
 
 -- a phase that is longer by a cost, as far as 64 bits count
 abbrev pub lengthened : ℕ → ℕ → ℕ
-lengthened cost due = due + min cost (18446744073709551615 - due)
+lengthened cost due = due + min cost (2 ^ 64 - 1 - due)
 
 -- a task begins to run at a processor. The rest of its phase grows by the cost if the task migrates and has not run past its phase
 abbrev pub moved_to : ℕ → ℕ → TaskProgress → TaskProgress
