@@ -1,5 +1,5 @@
 -- Words that say none.
-use Rattle.std.proofs.Common.{◌≡◌, ℕ, List, Option, Some, None, sym, subst, String}
+use Rattle.std.proofs.Common.{◌≡◌, ℕ, List, Option, Some, None, subst, String}
 use Rattle.std.specs.declared.alloc.Global.{Global}
 use Rattle.bq_console.specs.declared.fault.WordsFault.{WordsFault}
 use Rattle.bq_console.specs.declared.fault.WordsFault.TheVariants.{Words, OutOfMemory}
@@ -9,10 +9,6 @@ use Rattle.bq_console.specs.Words.{GivesNone, GivesWord}
 pub none_given : {A : Type 0} (Gives : A → Type 0) (e : WordsFault) → ((a : A) → ¬ Gives a) → GivesNone Gives e
 none_given Gives (Words why) none = none
 none_given Gives OutOfMemory none = tt
-
--- lack of memory says nothing of the words
-pub no_memory : {A : Type 0} (Gives : A → Type 0) (e : WordsFault) → e ≡ OutOfMemory → GivesNone Gives e
-no_memory {A} Gives e is = subst (λ (f : WordsFault). GivesNone Gives f) (sym is) tt
 
 -- where words say no part, they say no whole
 pub none_of_part : {A B : Type 0} (Part : A → Type 0) (Whole : B → Type 0) (e : WordsFault)

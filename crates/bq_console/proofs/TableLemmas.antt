@@ -1,5 +1,5 @@
 -- One option or command more of a table.
-use Rattle.std.proofs.Common.{◌≡◌, ℕ, suc, ◌+◌, ◌<◌, List, [], ◌∷◌, ◌++◌, Result, true, length, drop, get_or, add-one, ap, append_assoc, append-nil, map, refl, subst}
+use Rattle.std.proofs.Common.{◌≡◌, ℕ, suc, ◌+◌, ◌<◌, List, [], ◌∷◌, ◌++◌, Result, true, length, drop, get_or, add-one, ap, append_assoc, map, refl, subst}
 use Rattle.std.proofs.Math.Seq.{drop-cons}
 use Rattle.std.specs.Prelude.{IfErr}
 use Rattle.std.specs.Borrow.{Bor}
@@ -15,10 +15,6 @@ use Rattle.bq_console.specs.Tables.{shape_of_command, option_of, options_of, wit
 -- options that come in two parts
 with_rules-append : (a : App) (some more : List Rule) → with_rules (with_rules a some) more ≡ with_rules a (some ++ more)
 with_rules-append a some more = ap (λ rules. on_top (λ s. record s { rules = rules }) a) (append_assoc a.top.rules some more)
-
--- no options more
-pub with_rules-none : (a : App) → with_rules a [] ≡ a
-with_rules-none a = ap (λ rules. on_top (λ s. record s { rules = rules }) a) (append-nil a.top.rules)
 
 -- what the options from a place on make of a command, those behind it make of the command with the option there
 pub options-next : (a b : App) (xs : List OptionText) (i : ℕ) (d : OptionText) → i < length xs → b ≡ with_rule a (option_of (get_or xs i d))

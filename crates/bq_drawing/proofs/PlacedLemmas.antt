@@ -1,5 +1,5 @@
 -- The rows of a picture, placed one below another, and the lanes of their waits and wakes.
-use Rattle.std.proofs.Common.{◌≡◌, ◌≢◌, ℕ, zero, suc, ◌+◌, ◌<◌, ◌≤◌, ◌^◌, Bool, true, false, cond, List, [], ◌∷◌, ◌++◌, Option, Some, None, drop, get_or, length, refl, sym, ap, ◌∙◌, subst, append-nil, add-one, arith, inl, inr, ⊎_elim, BTreeMap, string_bytes}
+use Rattle.std.proofs.Common.{◌≡◌, ◌≢◌, ℕ, zero, suc, ◌+◌, ◌<◌, ◌≤◌, ◌^◌, true, false, cond, List, [], ◌∷◌, ◌++◌, Option, Some, None, drop, get_or, length, refl, sym, ap, ◌∙◌, subst, append-nil, add-one, arith, inl, inr, ⊎_elim, BTreeMap, string_bytes}
 use Rattle.std.proofs.lemmas.Bool.{cases_eq}
 use Rattle.std.proofs.lemmas.Bool.Decides.{nat_tests}
 use Rattle.std.proofs.lemmas.List.{at_drop_more}
@@ -80,10 +80,6 @@ left_all room lanes items i whole now none small is =
     sym same ∙ sym (ap (λ (l : List TaskInterval). saturating_sum now (left_out room lanes l)) none) ∙ is
 
 -- ---- rows
-
--- whether a row is of this processor
-has_number : ℕ → PlacedRow → Bool
-has_number q p = p.number == q
 
 -- no row of a processor that is still to come
 none_yet : (w : Window) (s : PictureSetting) (rows : Rows) (number : ℕ) (placed : List PlacedRow) (edge q : ℕ)

@@ -70,14 +70,6 @@ module _ {E T : Type 0} (same : E → E → Bool) (good : T → Type 0) (fits : 
         each_moves is t u n xs (λ e. let l = le e in omega arith) moves h.1,
       )
 
-  -- one holder with all items of a good whole keeps the rule
-  pub begins : (v : List E) → Has same good fits v → Keeps same good fits (v ∷ [])
-  begins v h = (h.0, h.1, (λ e. let l = h.2 e in omega arith), one)
-    where
-      one : (by : ℕ) (w : List E) → get_elem? (v ∷ []) by ≡ some w → Each (fits h.0) w
-      one zero w e = subst (Each (fits h.0)) (some-injective v w e) h.3
-      one (suc by) w e = absurd (some-ne-none w (sym e))
-
   -- the first item goes to a new holder
   pub cuts : (views : List (List E)) (id : ℕ) (v : List E) → Keeps same good fits views → get_elem? views id ≡ some v
       → Keeps same good fits (set views id (others_of v) ++ first_item v ∷ [])

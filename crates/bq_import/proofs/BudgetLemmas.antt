@@ -1,6 +1,6 @@
 -- What is kept for the slots that were begun, and what the copy may have in all.
 use Rattle.std.proofs.Common.{◌≡◌, ℕ, ◌+◌, ◌-◌, ◌<◌, ◌≤◌, ◌⊎◌, inl, inr, Bool, true, false, List, [], ◌∷◌, ◌++◌, reverse, length, take, get_or, Option, Some, None, refl, arith, sym, ap, ◌∙◌, subst}
-use Rattle.std.specs.Prelude.{if◌then◌else◌, slice_index, slice_set, sum_by}
+use Rattle.std.specs.Prelude.{if◌then◌else◌, slice_set, sum_by}
 use Rattle.std.proofs.lemmas.Bool.{cases_eq}
 use Rattle.std.proofs.lemmas.List.{get_or-append-add, get_or-set_other, get_or-set_same, length-append, reverse-append, reverse-reverse, take_all, take_more}
 use Rattle.std.proofs.lemmas.List.Sums.{sum_by-cons, sum_by-le-sum_by}
@@ -53,18 +53,6 @@ top_of stack top rest is =
 
 -- a program, and for each slot whether it was begun
 module _ (old : List (Option Insn)) (opens : List Bool) where
-  -- a waiting run has no more slots than the run
-  waiting_is : (slot : ℕ) → waiting old opens slot ≤ run_slots old slot
-  waiting_is slot = by (is_open opens slot)
-    where
-      by : (b : Bool) → (if b then 0 else run_slots old slot) ≤ run_slots old slot
-      by true = omega arith
-      by false = omega arith
-
-  -- the waiting runs have no more slots than all runs
-  pub all_wait : (landings : List ℕ) → sum_by (waiting old opens) landings ≤ sum_by (run_slots old) landings
-  all_wait landings = sum_by-le-sum_by (waiting old opens) (run_slots old) landings waiting_is
-
   -- one slot is begun
   module _ (slot : ℕ) (inside : slot < length opens) where
     -- no run has more waiting slots than before
@@ -287,26 +275,6 @@ full_within old back origins places opens stack extra own most (Loop from to) li
 full_within old back origins places opens stack extra own most Long linked budget le fits full long over order =
     (linked, λ landings has. let within = budget.fits landings has in omega (arith, within, le, fits, full), order over)
 full_within old back origins places opens stack extra own most OutOfMemory linked budget le fits full long over order = tt
-
--- a search that has begun no slot stays within the runs of landings
-pub nothing_written : (old back : List (Option Insn)) (origins : List ℕ) (places : List (Option ℕ))
-    (opens : List Bool) (stack : List ℕ)
-    → back ≡ [] → stack ≡ [] → HasBudget old back origins places opens stack 0
-nothing_written old back origins places opens stack nothing empty = record {
-  kept = 0;
-  is_kept = subst (λ (s : List ℕ). IsBudgetKept old back origins places (reverse s) 0) (sym empty) tt;
-  fits =
-      λ landings has.
-      let all = all_wait old opens landings in let none : length back ≡ 0 = ap length nothing in omega (arith, all, none);
-}
-
--- only one slot is in front
-pub front_same : (back : List (Option Insn)) (origins : List ℕ) (a b : ℕ) → IsFront back origins a → IsFront back origins b → a ≡ b
-front_same back origins a b p q =
-    let one = p.place_is in
-    let two = q.place_is in
-    let same : p.place ≡ q.place = omega (arith, one, two) in
-    sym p.stands.origin_is ∙ (ap (λ (n : ℕ). slice_index origins n) same ∙ q.stands.origin_is)
 
 -- a search within a budget is within a larger one
 pub budget_more : (old back : List (Option Insn)) (origins : List ℕ) (places : List (Option ℕ)) (opens : List Bool)

@@ -7,16 +7,13 @@ use Rattle.bq_insn.specs.declared.Insn.{Insn}
 use Rattle.bq_insn.specs.Slots.{slots_of, spread}
 use Rattle.bq_bpf.specs.Steps.{instruction_at}
 use Rattle.bq_verify.specs.Edges.{IsEdge, IsStart}
-use Rattle.bq_verify.specs.Paths.{Path}
 use Rattle.bq_verify.specs.Passes.{IsAmongTargets}
 use Rattle.bq_verify.specs.declared.targets.Targets.{Targets}
 use Rattle.bq_insn.proofs.OptionLemmas.{some_same, some_none}
 use Rattle.bq_verify.proofs.EdgeLemmas.{start_inside}
 use Rattle.bq_import.specs.Copies.{IsCopyOfSlot}
 use Rattle.bq_import.specs.Backward.{IsBuilt, IsFront, IsLengthened, IsOneMore}
-use Rattle.bq_import.specs.Faults.{AllForward, HasGaps, IsFull, IsLinked}
-use Rattle.bq_import.specs.declared.fault.Disorder.{Disorder}
-use Rattle.bq_import.specs.declared.fault.Disorder.TheVariants.{Outside, Ends, Loop, Long, OutOfMemory}
+use Rattle.bq_import.specs.Faults.{AllForward, HasGaps, IsLinked}
 use Rattle.bq_import.specs.Search.{AreCopyPlaces, AreTargets, HasCopy, IsSlotReady, is_open, copy_place}
 use Rattle.bq_import.specs.Keeping.{AreFollowed, AreReached, IsKeeping, IsMarked}
 use Rattle.bq_import.proofs.RoomLemmas.{lies_within}
@@ -25,24 +22,6 @@ use Rattle.bq_import.proofs.StackLemmas.{path_on}
 -- a number from the bound on is the bound, or is above it
 at_or_above : (bound k : ℕ) → bound ≤ k → (k ≡ bound) ⊎ (bound + 1 ≤ k)
 at_or_above bound k le = elim (cases_eq k bound) [ inl e ↦ inl e | inr apart ↦ inr (omega (arith, le, apart)) ]
-
--- with only slot 0 marked, slot 0 is found, and no slot is followed yet
-pub first_found : (slots : List (Option Insn)) (blank found : List Bool)
-    → IsStart slots 0 → ((k : ℕ) → is_open blank k ≡ false) → length blank ≡ length slots → IsMarked blank (Some 0) found
-    → AreFollowed slots 0 found
-first_found slots blank found start none room m =
-    let inside = start_inside slots 0 start in
-    let zero_only : (k : ℕ) → is_open found k ≡ true → k ≡ 0 = λ k e. elim (m.only k e) [
-      | inl was ↦ absurd (let no : true ≡ false = sym was ∙ none k in let never : ⊥ = cc in never)
-      | inr is ↦ sym (some_same (Some 0) 0 k refl is)
-    ] in
-    record {
-      room = m.long ∙ room;
-      begins = m.now 0 refl (omega (arith, inside, room));
-      starts = λ k e. subst (λ (n : ℕ). IsStart slots n) (sym (zero_only k e)) start;
-      ways = λ k e. subst (λ (n : ℕ). Path slots 0 n) (sym (zero_only k e)) (record { rest = []; is_path = tt; ends = refl });
-      closed = λ k to lt e edge. absurd (omega (arith, lt));
-    }
 
 -- a slot to which control does not come counts as followed
 pub not_followed : (slots : List (Option Insn)) (slot : ℕ) (found : List Bool)
@@ -309,11 +288,3 @@ spread_has_gaps (i ∷ rest) (suc slot) insn here zero lt below start = absurd (
 spread_has_gaps (i ∷ rest) (suc slot) insn here (suc j) lt below start =
     gap_apart (slots_of i - 1) (spread rest) (spread_has_gaps rest) slot insn here j (omega (arith, lt))
     (omega (arith, below)) (record { insn = start.insn; here = start.here })
-
--- a copy that has room fails only when memory runs out
-pub only_memory : (most : ℕ) (d : Disorder) → most ≤ 4096 → IsFull most d → d ≡ OutOfMemory
-only_memory most (Outside slot) le full = absurd full
-only_memory most (Ends slot) le full = absurd full
-only_memory most (Loop from to) le full = absurd full
-only_memory most Long le full = absurd (omega (arith, le, full))
-only_memory most OutOfMemory le full = refl

@@ -1,5 +1,5 @@
 -- Where control goes, and that a copy of what control comes to has nothing else.
-use Rattle.std.proofs.Common.{◌≡◌, ℕ, ◌+◌, ◌-◌, ◌<◌, ◌≤◌, Bool, true, List, Option, Some, None, length, reverse, refl, arith, sym, ap, ◌∙◌, subst, inl, inr, ℤ}
+use Rattle.std.proofs.Common.{◌≡◌, ℕ, ◌+◌, ◌-◌, ◌≤◌, Bool, true, List, Option, Some, length, reverse, refl, arith, sym, ap, ◌∙◌, subst, inl, inr, ℤ}
 use Rattle.std.specs.Prelude.{slice_index}
 use Rattle.std.proofs.lemmas.List.{length-reverse}
 use Rattle.bq_insn.specs.declared.Insn.{Insn}
@@ -17,7 +17,7 @@ use Rattle.bq_import.specs.Copies.{IsCopy, IsCopyOfSlot, copied}
 use Rattle.bq_import.specs.Backward.{IsFront}
 use Rattle.bq_import.specs.Faults.{AllForward, IsDisorder, IsLinked, IsSearchFault, LeadsWell}
 use Rattle.bq_import.specs.Search.{AreTargets}
-use Rattle.bq_import.specs.Keeping.{AllReached, AreReached, IsKeeping, LeadsForward}
+use Rattle.bq_import.specs.Keeping.{AllReached, AreReached, IsKeeping}
 use Rattle.bq_import.specs.declared.fault.Disorder.{Disorder}
 use Rattle.bq_import.specs.declared.fault.Disorder.TheVariants.{Outside, Ends, Loop, Long, OutOfMemory}
 use Rattle.bq_import.proofs.OrderLemmas.{is_copy, stands_here}
@@ -26,27 +26,7 @@ use Rattle.bq_import.proofs.KeepLemmas.{spread_has_gaps}
 use Rattle.bq_import.proofs.LengthLemmas.{long_enough}
 use Rattle.bq_import.proofs.ProgramLemmas.{are_good}
 
--- where no instruction begins control goes nowhere
-pub nowhere_forward : (slots : List (Option Insn)) (slot : ℕ) → instruction_at slots slot ≡ None → LeadsForward slots slot
-nowhere_forward slots slot none to edge = absurd (some_none _ edge.insn edge.here none)
-
--- an instruction that does not jump leads on
-pub next_forward : (slots : List (Option Insn)) (slot : ℕ) (insn : Insn) (targets : Targets)
-    → AreTargets slots slot insn targets → targets.jump ≡ None → LeadsForward slots slot
-next_forward slots slot insn targets are none to edge = elim (are.out.each to edge) [
-  | inl next ↦ are.later to next
-  | inr jump ↦ absurd (some_none _ to jump none)
-]
-
--- an instruction that jumps to a later slot leads there
-pub jump_forward : (slots : List (Option Insn)) (slot : ℕ) (insn : Insn) (targets : Targets) (far : ℕ)
-    → AreTargets slots slot insn targets → targets.jump ≡ Some far → slot < far → LeadsForward slots slot
-jump_forward slots slot insn targets far are is later to edge = elim (are.out.each to edge) [
-  | inl next ↦ are.later to next
-  | inr jump ↦ let same : far ≡ to = some_same _ far to is jump in omega (arith, same, later)
-]
-
--- one that jumps elsewhere does not
+-- an instruction that jumps to no later slot stands in no program in which control only goes forward
 pub jump_backward : (slots : List (Option Insn)) (slot : ℕ) (insn : Insn) (targets : Targets) (far : ℕ)
     → AreTargets slots slot insn targets → targets.jump ≡ Some far → far ≤ slot → AllForward slots → ⊥
 jump_backward slots slot insn targets far are is back forward =
@@ -60,10 +40,6 @@ wrong_by_search slots (Ends slot) back wrong = absurd wrong
 wrong_by_search slots (Loop from to) back wrong = wrong
 wrong_by_search slots Long back wrong = (wrong.0, back, wrong.1, wrong.2, long_enough slots wrong.0 wrong.1)
 wrong_by_search slots OutOfMemory back wrong = tt
-
--- that memory runs out is wrong with no program
-pub wrong_for_memory : (slots : List (Option Insn)) (d : Disorder) → d ≡ OutOfMemory → IsDisorder slots d
-wrong_for_memory slots d e = subst (λ (x : Disorder). IsDisorder slots x) (sym e) tt
 
 -- once all is kept the first instruction is in front
 pub kept_front : (maps : ℕ) (old : List (Option Insn)) (found : List Bool) (bound : ℕ) (back : List (Option Insn))

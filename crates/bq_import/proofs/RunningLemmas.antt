@@ -4,13 +4,12 @@ use Rattle.std.proofs.lemmas.Bool.{cases_lt, cases_order}
 use Rattle.bq_insn.specs.declared.Insn.{Insn}
 use Rattle.bq_insn.specs.Slots.{slots_of}
 use Rattle.bq_bpf.specs.Steps.{instruction_at}
-use Rattle.bq_bpf.specs.Instructions.{goes_on}
 use Rattle.bq_verify.specs.Edges.{IsEdge, IsStart}
-use Rattle.bq_insn.proofs.OptionLemmas.{some_same, some_none}
+use Rattle.bq_insn.proofs.OptionLemmas.{some_same}
 use Rattle.bq_insn.proofs.CountLemmas.{slots_positive}
 use Rattle.bq_verify.specs.declared.targets.Targets.{Targets}
 use Rattle.bq_import.specs.declared.fault.Disorder.{Disorder}
-use Rattle.bq_import.specs.Backward.{IsBuilt, IsFront, IsLengthened}
+use Rattle.bq_import.specs.Backward.{IsFront, IsLengthened}
 use Rattle.bq_import.specs.Faults.{IsFull, IsLinked}
 use Rattle.bq_import.specs.Lengths.{width_at, width_of_slot}
 use Rattle.bq_import.specs.Search.{AreClosed, AreTargets, IsNextSlot, IsSlotReady, Suffices}
@@ -23,14 +22,6 @@ pub next_of : (slots : List (Option Insn)) (slot : ℕ) (insn : Insn) (targets :
     → instruction_at slots slot ≡ Some insn → AreTargets slots slot insn targets → targets.next ≡ Some next
     → IsNextSlot slots slot next
 next_of slots slot insn targets next here are is = record { insn = insn; here = here; on = are.on next is; is = are.behind next is }
-
--- the next slot of the instruction is the next slot among the targets
-pub next_is : (slots : List (Option Insn)) (slot : ℕ) (insn : Insn) (targets : Targets) (next : ℕ)
-    → instruction_at slots slot ≡ Some insn → AreTargets slots slot insn targets → IsNextSlot slots slot next
-    → targets.next ≡ Some next
-next_is slots slot insn targets next here are n =
-    let same : n.insn ≡ insn = some_same _ n.insn insn n.here here in
-    are.next (ap goes_on (sym same) ∙ n.on) ∙ ap (λ (k : ℕ). Some k) (sym (n.is ∙ ap (λ (i : Insn). slot + slots_of i) same))
 
 -- an instruction begins at the next slot
 pub next_start : (slots : List (Option Insn)) (slot next : ℕ) → IsLinked slots → IsNextSlot slots slot next → IsStart slots next
@@ -45,17 +36,6 @@ pub next_same : (slots : List (Option Insn)) (slot a b : ℕ) → IsNextSlot slo
 next_same slots slot a b p q =
     let same : p.insn ≡ q.insn = some_same _ p.insn q.insn p.here q.here in
     p.is ∙ (ap (λ (i : Insn). slot + slots_of i) same ∙ sym q.is)
-
--- an instruction whose targets are in place is a run
-pub run_of_one : (slots : List (Option Insn)) (places : List (Option ℕ)) (slot : ℕ)
-    → IsStart slots slot → IsSlotReady slots places slot → IsRunOfSlots slots places slot slot
-run_of_one slots places slot start ready = record {
-  begins = omega arith;
-  start = start;
-  onward = λ j from below s. absurd (omega (arith, from, below));
-  ready = λ j from to s. let same : slot ≡ j = omega (arith, from, to) in subst (λ (n : ℕ). IsSlotReady slots places n) same ready;
-  ends = refl;
-}
 
 -- a run and its next instruction are a run
 pub run_on : (slots : List (Option Insn)) (places : List (Option ℕ)) (slot last next : ℕ)
@@ -83,36 +63,6 @@ run_on slots places slot last next linked closed run n =
         | inr before ↦ run.ready j from (omega (arith, before)) at
       ];
       ends = run_next slots last next linked n ∙ run.ends;
-    }
-
--- where no instruction begins, the copy stays the same
-pub not_put : (maps : ℕ) (old back : List (Option Insn)) (origins : List ℕ) (slot : ℕ)
-    → instruction_at old slot ≡ None → IsBuilt maps old back origins
-    → IsPutInFront maps old back origins back origins slot
-not_put maps old back origins slot none built =
-    let wide : width_at old slot ≡ 0 = ap width_of_slot none in
-    record {
-      built = built;
-      keeps = λ place from s. s;
-      front = λ start. absurd (some_none _ start.insn start.here none);
-      same = λ no. (refl, refl);
-      grown = omega (arith, wide);
-    }
-
--- an instruction that lengthened the copy was put in front
-pub was_put : (maps : ℕ) (old before : List (Option Insn)) (origins : List ℕ) (after : List (Option Insn))
-    (origins' : List ℕ) (slot : ℕ) (insn : Insn)
-    → instruction_at old slot ≡ Some insn → IsLengthened maps old before origins after origins' slot
-    → length after ≡ length before + slots_of insn
-    → IsPutInFront maps old before origins after origins' slot
-was_put maps old before origins after origins' slot insn here more grown =
-    let wide : width_at old slot ≡ slots_of insn = ap width_of_slot here in
-    record {
-      built = more.built;
-      keeps = more.keeps;
-      front = λ start. more.front;
-      same = λ no. absurd (no (record { insn = insn; here = here }));
-      grown = omega (arith, grown, wide);
     }
 
 -- a run of instructions of a linked program, which is put in front of the copy so far

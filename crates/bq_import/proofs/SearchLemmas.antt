@@ -16,7 +16,7 @@ use Rattle.bq_insn.proofs.OptionLemmas.{some_same, some_none}
 use Rattle.bq_insn.proofs.CountLemmas.{slots_positive}
 use Rattle.bq_verify.proofs.EdgeLemmas.{leads_same, leads_out}
 use Rattle.bq_import.specs.Copies.{IsCopyOfSlot}
-use Rattle.bq_import.specs.Backward.{JumpsBack, IsFront, IsLengthened, MayBePut}
+use Rattle.bq_import.specs.Backward.{JumpsBack, IsFront, MayBePut}
 use Rattle.bq_import.specs.Lengths.{IsJump}
 use Rattle.bq_import.specs.Search.{AreTargets, JumpsTo}
 
@@ -133,14 +133,6 @@ module _ (old back : List (Option Insn)) (origins : List ℕ) (slot : ℕ) (insn
     on = λ on. front (slot + slots_of insn) (are.next on);
     jumps = jump_lands distance targets.jump refl jumps;
   }
-
--- a copy that was lengthened twice was lengthened by the instruction that is in front now
-pub lengthened_twice : (maps : ℕ) (old a : List (Option Insn)) (x : List ℕ) (b : List (Option Insn)) (y : List ℕ)
-    (c : List (Option Insn)) (z : List ℕ) (first last : ℕ)
-    → IsLengthened maps old a x b y first → IsLengthened maps old b y c z last
-    → IsLengthened maps old a x c z last
-lengthened_twice maps old a x b y c z first last p q =
-    record { built = q.built; keeps = λ place from s. q.keeps place from (p.keeps place from s); front = q.front }
 
 -- a jump over the slots from the front to a copy of a slot leads to this copy
 pub jumps_to : (back : List (Option Insn)) (origins : List ℕ) (places : List (Option ℕ)) (to place : ℕ)

@@ -1,6 +1,6 @@
 -- What is said of a need is lacking, and where nothing is said nothing is lacking.
 use Rattle.std.proofs.lemmas.Bool.{cases_lt}
-use Rattle.std.proofs.Common.{◌≡◌, ℕ, pos, ◌+◌, ◌<◌, ◌&&◌, Bool, true, false, is_none, List, Option, Some, None, inl, inr, slice_get, slice_index_or, sym, ◌∙◌, ap, subst, refl, arith}
+use Rattle.std.proofs.Common.{◌≡◌, ℕ, pos, ◌+◌, ◌<◌, true, false, Option, Some, None, inl, inr, slice_get, slice_index_or, sym, ◌∙◌, ap, subst, arith}
 use Rattle.std.proofs.lemmas.Option.{same_Some}
 use Rattle.bq_insn.specs.declared.Insn.{Insn}
 use Rattle.bq_states.specs.Certainty.{Pointer, CertaintyHolds, CertaintyHoldsAt}
@@ -11,9 +11,9 @@ use Rattle.bq_policy_file.specs.declared.policy_source.PolicySource.{PolicySourc
 use Rattle.bq_verify.specs.Subjects.{context_size_of}
 use Rattle.bq_needs.specs.Accesses.{IsAccessShown, Lacks}
 use Rattle.bq_needs.specs.Arguments.{PointsTo, PointsToValue}
-use Rattle.bq_needs.specs.Needs.{AreReadsKnown, AreNumbers, AreUnknown, IsFirstPointer, IsGoodAccess, is_unknown}
+use Rattle.bq_needs.specs.Needs.{AreNumbers, IsFirstPointer, IsGoodAccess}
 use Rattle.bq_bpf.specs.declared.shape.MapShape.{MapShape}
-use Rattle.bq_needs.specs.Operands.{access_of, known_in, reads, works_on}
+use Rattle.bq_needs.specs.Operands.{access_of, known_in, works_on}
 use Rattle.bq_needs.specs.declared.accesses.Lack.TheVariants as lack
 use Rattle.bq_needs.specs.declared.accesses.Lack.{Lack}
 use Rattle.bq_needs.specs.declared.memory_access.MemoryAccess.{MemoryAccess}
@@ -57,28 +57,6 @@ lacking_not_pointing p state r bytes k why known lacks (other, is, shown) =
     let a : MemoryAccess = record { writes = false; bytes = bytes; register = r; off = pos 0 } in
     let same : other ≡ k = same_Some _ _ (sym is ∙ known) in
     lacks_not_shown p state a k why lacks (subst (λ (x : AbstractValue). IsAccessShown p state a x) same shown)
-
--- where none of the registers is one that is read and not known, each that is read is known
-pub all_known : (state : AbstractState) (insn : Insn) (registers : List Bool)
-    → AreUnknown state insn registers → ((r : ℕ) → r < 11 → slice_index_or registers r false ≡ true → ⊥)
-    → AreReadsKnown state insn
-all_known state insn registers are none r below read unset =
-    let unknown : is_unknown state insn r ≡ true = rw (read, unset) refl in
-    none r below (are r below ∙ unknown)
-
--- where a test for both passes, the register is one that is read, and nothing is known of it
-not_known : (b : Bool) (o : Option AbstractValue) → (b && is_none o) ≡ true → (b ≡ true) × (o ≡ None)
-not_known false o e = absurd cc
-not_known true None e = (refl, refl)
-not_known true (Some k) e = absurd cc
-
--- where one of them is, not each that is read is known
-pub one_unknown : (state : AbstractState) (insn : Insn) (registers : List Bool)
-    → AreUnknown state insn registers → (r : ℕ) → r < 11 → slice_index_or registers r false ≡ true
-    → ¬ (AreReadsKnown state insn)
-one_unknown state insn registers are r below one known =
-    let both = not_known (reads insn r) (known_in state r) (sym (are r below) ∙ one) in
-    known r below both.0 both.1
 
 -- a pointer that is worked on is no number
 pub pointer_no_number : (state : AbstractState) (insn : Insn) (r : ℕ) (k : AbstractValue)

@@ -105,12 +105,6 @@ same_known b c before column wanted is not known = (
 now_known : (c : Bool) (before : List Column) (column : Column) → c ≡ true → (IsTrue c ↔ Contains (before ++ (column ∷ [])) column)
 now_known c before column is = (λ h. Contains-push before column, λ stands. is)
 
--- the task of a column, 0 if it shows none
-task_of : Column → ℕ
-task_of (Task task) = task
-task_of Hidden = 0
-task_of Idle = 0
-
 -- with no more runs, a legend that has noted the same tasks as running knows all that run
 same_ran : (e : Extent) (ran : List Slice) (old new : Legend) → new.ran ≡ old.ran
     → ((task : ℕ) → IsTrue (contains nat_cmp old.ran task) ↔ RunsIn e ran task)

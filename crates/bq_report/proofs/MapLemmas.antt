@@ -170,10 +170,6 @@ pub record IsLeft (at : ℕ) (all left : List Slice) : Type 0 where
   pub order : InOrder left
   pub times : (from to : ℕ) → at ≤ from → LastAsLong from to left all
 
--- all of them are left
-pub left_all : (at : ℕ) (all : List Slice) → InOrder all → IsLeft at all all
-left_all at all order = record { order = order; times = λ from to h. record { each = λ task. refl; all = refl } }
-
 -- fewer are left at a later column
 pub left_fewer : (g : Grid) (n at : ℕ) (all left next : List Slice) → at ≡ moment_at g (n + 1) → IsLeft (moment_at g n) all left
     → InOrder next → ((from to : ℕ) → at ≤ from → LastAsLong from to next left)
@@ -189,10 +185,6 @@ pub record ColumnsBelow (shown hidden : List Slice) (g : Grid) (number : ℕ) (c
   pub count : length columns ≡ number
   pub each : (n : ℕ) → n < number
       → IsColumn (record { shown = shown; hidden = hidden }) (moment_at g n) (moment_at g (n + 1)) (get_or columns n Idle)
-
--- below column 0 there is no column
-pub below_none : (shown hidden : List Slice) (g : Grid) → ColumnsBelow shown hidden g 0 []
-below_none shown hidden g = record { count = refl; each = λ n lt. absurd (omega (arith, lt)) }
 
 -- a column by the runs that are left is one by all of them
 pub below_more : (shown hidden : List Slice) (g : Grid) (number from to : ℕ) (columns next : List Column) (left others : List Slice) (c : Column)
@@ -210,15 +202,6 @@ below_more shown hidden g number from to columns next left others c below one tw
           (subst (λ m. IsColumn (record { shown = shown; hidden = hidden }) (moment_at g number) m c) ends
           (subst (λ m. IsColumn (record { shown = shown; hidden = hidden }) m to c) begins all));
     })
-
--- as many columns as there are
-pub below_all : (shown hidden : List Slice) (g : Grid) (number : ℕ) (columns : List Column)
-    → number ≡ g.count → ColumnsBelow shown hidden g number columns
-    → AreColumns (record { shown = shown; hidden = hidden }) g columns
-below_all shown hidden g number columns is below = record {
-  count = below.count ∙ is;
-  each = λ n lt. below.each n (omega (arith, lt, is));
-}
 
 -- the columns of runs in another order are those of the runs as they came
 columns_sorted : (shown hidden shown' hidden' : List Slice) (g : Grid) (columns : List Column)

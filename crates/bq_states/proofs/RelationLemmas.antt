@@ -27,10 +27,6 @@ pub record OutlivesClass (class : ℕ) (old new : Option Related) : Type 0 where
 pub allows_no_relation : AllowsRelation None None
 allows_no_relation = record { has = λ word h. h }
 
--- no relation outlives each class
-pub no_relation_outlives : (class : ℕ) → OutlivesClass class None None
-no_relation_outlives class = record { has = λ word other same h. h }
-
 -- the word to which a number is added is the sum less that number
 pub sum_right : (a b n : ℕ) → n < 2 ^ 64 → Relates (Sum n) a b → b ≡ (a + (2 ^ 64 - n)) % 2 ^ 64
 sum_right a b n small so = omega (arith, so.left, so.right, so.is)

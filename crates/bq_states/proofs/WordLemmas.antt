@@ -39,12 +39,6 @@ pub describes_more : (shapes : List MapShape) (kind : ValueKind) (k : AbstractVa
 describes_more shapes kind k r word bases more d =
     record { base = d.base; offset = d.offset; is_base = bases d.base d.is_base; within = more d.offset d.within; word_is = d.word_is }
 
--- a word that is known to be in a range is known to be in a wider one
-pub describes_wider : (shapes : List MapShape) (kind : ValueKind) (k : AbstractValue) (r : Range) (word : ℕ)
-    → k.kind ≡ kind → ((x : ℕ) → Within k.offset x → Within r x) → Describes shapes k word
-    → Describes shapes (record { kind = kind; offset = r }) word
-describes_wider shapes kind k r word e = describes_more shapes kind k r word (λ base is. rw e at is)
-
 -- a word that is described has at most 64 bits
 pub word_fits : (shapes : List MapShape) (k : AbstractValue) (a : ℕ) → Describes shapes k a → a < 2 ^ 64
 word_fits shapes k a d = omega (arith, d.word_is)

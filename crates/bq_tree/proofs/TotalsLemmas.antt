@@ -1,5 +1,5 @@
 -- What is known of two lists, and of a task that comes or goes: their totals, and when the first is due.
-use Rattle.std.proofs.Common.{◌≡◌, ℕ, ◌+◌, Bool, true, false, cond, nat_lt, List, [], ◌∷◌, ◌++◌, Option, Some, None, refl, ap, sym, ◌∙◌, arith, length-append}
+use Rattle.std.proofs.Common.{◌≡◌, ℕ, ◌+◌, Bool, true, false, cond, List, [], ◌∷◌, ◌++◌, Option, Some, None, refl, ap, sym, ◌∙◌, arith, length-append}
 use Rattle.std.proofs.lemmas.Bool.Decides.{nat_tests}
 use Rattle.std.specs.Prelude.{◌==◌, ◌&&◌}
 use Rattle.bq_disc.specs.Tasks.{Task, inserted, runs_before}
@@ -47,10 +47,6 @@ assoc_by_tests x y z false false false p q r = rw (p, q, r, p) refl
 -- the earliest of three is the same whichever two are compared first
 pub earlier_of-assoc : (x y z : Deadline) → earlier_of (earlier_of x y) z ≡ earlier_of x (earlier_of y z)
 earlier_of-assoc x y z = assoc_by_tests x y z (is_earlier y x) (is_earlier z y) (is_earlier z x) refl refl refl
-
--- numbers neither of which is less are equal, and so are deadlines neither of which is earlier
-same_number : (a b : ℕ) → nat_lt a b ≡ false → nat_lt b a ≡ false → a ≡ b
-same_number a b p q = grind (arith, nat_tests)
 
 same_due : (x y : Deadline) → is_earlier x y ≡ false → is_earlier y x ≡ false → x ≡ y
 same_due x y p q =

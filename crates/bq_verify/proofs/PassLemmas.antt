@@ -3,7 +3,6 @@ use Rattle.std.proofs.Common.{◌≡◌, ◌≢◌, ℕ, zero, suc, ◌+◌, ◌
 use Rattle.std.specs.Prelude.{slice_index, slice_index_or}
 use Rattle.std.proofs.lemmas.Bool.Decides.{eqb_tells}
 use Rattle.std.proofs.lemmas.List.{get_or_past}
-use Rattle.std.proofs.lemmas.Bool.{both_ways}
 use Rattle.bq_insn.specs.declared.Insn.{Insn}
 use Rattle.bq_insn.specs.declared.Insn.TheVariants.{Goto, Goto32, Branch, Call}
 use Rattle.bq_insn.specs.declared.Width.{Width}
@@ -323,21 +322,6 @@ waits_at_slot f s pending slot same waits = subst (λ (n : ℕ). IsDescribed f (
 module _ (p : Subject) (slot : ℕ) (pending : List (Option (Box AbstractState Global))) (state : AbstractState)
     (live : Bool) (K : Setting → State → Type 0) (empty : slice_index_or pending slot None ≡ None)
     (arrives : (f : Setting) (s : State) → f.shapes ≡ p.shapes → K f s → IsKnown pending state live slot f s) where
-  -- nothing is known at the slot
-  pub passes_over : (after : AbstractState) → live ≡ false → PassesOn p slot K (IsKnown pending after false (slot + 1))
-  passes_over after dead f s setting begins known = (
-    λ other. side (arrives f s setting.shapes_are known) other,
-    λ same. absurd (here (arrives f s setting.shapes_are known) same),
-  )
-    where
-      -- a state known at another slot stays known, and none is known at this one:
-      side : IsKnown pending state live slot f s → s.slot ≢ slot → IsKnown pending after false (slot + 1) f s
-      side (inl waits) other = inl waits
-      side (inr (e, same, contains)) other = absurd (other same)
-
-      here : IsKnown pending state live slot f s → s.slot ≡ slot → ⊥
-      here (inl waits) same = none_waits f s (slice_index_or pending slot None) empty (waits_at_slot f s pending slot same waits)
-      here (inr (e, same', contains)) same = both_ways live dead e
 
   -- the pass goes on past a slot whose instruction leads on
   pub passes_by : (new : List (Option (Box AbstractState Global))) (after : AbstractState) (on : Bool)
