@@ -248,9 +248,6 @@ fn head_reason(
     Ok(at_line(line, why))
 }
 
-/// The keys of such lines.
-const KEYS: [&str; 3] = ["hook", "maps", "format"];
-
 /// The key that the line of that number has misspelled, if it is a near one.
 fn near_key(
     alloc: Global,
@@ -267,10 +264,11 @@ fn near_key(
     let Some(written) = behind.split_whitespace().next() else {
         return Ok(None);
     };
+    let words = Key::ALL.map(|key| key.word());
     nearest(
         alloc,
         written,
-        KEYS.iter().copied().filter(|key| *key != written),
+        words.iter().copied().filter(|key| *key != written),
     )
 }
 
