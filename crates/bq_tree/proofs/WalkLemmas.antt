@@ -1,5 +1,5 @@
 -- Searches in a list that is cut at a task, and those of its tasks that are at most a mean.
-use Rattle.std.proofs.Common.{◌≡◌, ℕ, ◌*◌, ◌<◌, ◌≤◌, Bool, true, false, cond, List, [], ◌∷◌, ◌++◌, Option, Some, None, filter, refl, ap, ◌∙◌, find, arith}
+use Rattle.std.proofs.Common.{◌≡◌, ℕ, ◌*◌, ◌<◌, ◌≤◌, Bool, true, false, cond, List, [], ◌∷◌, ◌++◌, Option, Some, None, filter, refl, ap, ◌∙◌, append-nil, find, arith}
 use Rattle.std.proofs.lemmas.Bool.Decides.{nat_tests}
 use Rattle.bq_disc.specs.Tasks.{Task, runs_before}
 use Rattle.bq_disc.specs.Queues.{comes_after}
@@ -101,16 +101,12 @@ none_passes : (w m : ℕ) (x : Task) (xs : List Task) → is_at_most_mean w m x 
 none_passes w m x [] p h = refl
 none_passes w m x (y ∷ xs) p h = let e = fails_too w m x y p h.0 in rw e (none_passes w m x xs p h.1)
 
-append_nothing : (xs : List Task) → xs ++ [] ≡ xs
-append_nothing [] = refl
-append_nothing (x ∷ xs) = ap (λ l. x ∷ l) (append_nothing xs)
-
 -- where a task is above the mean, those that are not stand before it
 pub passing-left : (w m : ℕ) (xs : List Task) (x : Task) (ys : List Task)
     → IsRising (xs ++ x ∷ ys) → is_at_most_mean w m x ≡ false → passing w m (xs ++ x ∷ ys) ≡ passing w m xs
 passing-left w m xs x ys h e =
     let rest : passing w m (x ∷ ys) ≡ [] = rw e (none_passes w m x ys e (IsRising-after xs x ys h)) in
-    passing-append w m xs (x ∷ ys) ∙ ap (λ zs. passing w m xs ++ zs) rest ∙ append_nothing (passing w m xs)
+    passing-append w m xs (x ∷ ys) ∙ ap (λ zs. passing w m xs ++ zs) rest ∙ append-nil (passing w m xs)
 
 -- where a task is at most the mean, so are those before it
 pub passing-right : (w m : ℕ) (xs : List Task) (x : Task) (ys : List Task)
