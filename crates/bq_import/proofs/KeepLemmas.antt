@@ -10,14 +10,13 @@ use Rattle.bq_verify.specs.Edges.{IsEdge, IsStart}
 use Rattle.bq_verify.specs.Passes.{IsAmongTargets}
 use Rattle.bq_verify.specs.declared.targets.Targets.{Targets}
 use Rattle.bq_insn.proofs.OptionLemmas.{some_same, some_none}
-use Rattle.bq_verify.proofs.EdgeLemmas.{start_inside}
+use Rattle.bq_verify.proofs.EdgeLemmas.{start_inside, Path-push}
 use Rattle.bq_import.specs.Copies.{IsCopyOfSlot}
 use Rattle.bq_import.specs.Backward.{IsBuilt, IsFront, IsLengthened, IsOneMore}
 use Rattle.bq_import.specs.Faults.{AllForward, HasGaps, IsLinked}
 use Rattle.bq_import.specs.Search.{AreCopyPlaces, AreTargets, HasCopy, IsSlotReady, is_open, copy_place}
 use Rattle.bq_import.specs.Keeping.{AreFollowed, AreReached, IsKeeping, IsMarked}
 use Rattle.bq_import.proofs.RoomLemmas.{lies_within}
-use Rattle.bq_import.proofs.StackLemmas.{path_on}
 
 -- a number from the bound on is the bound, or is above it
 at_or_above : (bound k : ℕ) → bound ≤ k → (k ≡ bound) ⊎ (bound + 1 ≤ k)
@@ -66,7 +65,7 @@ module _ (slots : List (Option Insn)) (slot : ℕ) (insn : Insn) (targets : Targ
     begins = b.kept 0 (a.kept 0 p.begins);
     starts = λ k e. elim (found_by k e) [ inl was ↦ p.starts k was | inr of ↦ are.starts k of ];
     ways = λ k e. elim (found_by k e)
-        [ inl was ↦ p.ways k was | inr of ↦ path_on slots 0 slot k (p.ways slot here) (are.out.only k of) ];
+        [ inl was ↦ p.ways k was | inr of ↦ Path-push slots 0 slot k (p.ways slot here) (are.out.only k of) ];
     closed = λ k to lt e edge. elim (cases_eq k slot) [
       | inl same ↦ target_found to (are.out.each to (subst (λ (n : ℕ). IsEdge slots n to) same edge))
       | inr apart ↦ elim (found_by k e) [

@@ -8,7 +8,7 @@ use Rattle.bq_insn.specs.declared.Insn.{Insn}
 use Rattle.bq_verify.specs.Edges.{IsEdge, IsStart}
 use Rattle.bq_verify.specs.Paths.{Path}
 use Rattle.bq_insn.proofs.OptionLemmas.{some_same, some_none}
-use Rattle.bq_verify.proofs.EdgeLemmas.{start_inside, IsPath-push, end_of-push}
+use Rattle.bq_verify.proofs.EdgeLemmas.{start_inside, Path-push}
 use Rattle.bq_import.specs.Copies.{IsCopyOfSlot}
 use Rattle.bq_import.specs.Backward.{IsBuilt, IsLengthened}
 use Rattle.bq_import.specs.Search.{AllComeTo, AreWaiting, IsCounted, IsQueued, copy_place, HasCopy, AreCopyPlaces, AreClosed, IsSlotReady, is_open, unopened, IsStacked, IsTop, IsSearching, KeepsOpen, left_of}
@@ -25,20 +25,12 @@ still_set places slot place inside s done = elim (cases_eq s slot) [
   | inr apart ↦ (done.0, get_or-set_other places slot s (Some place) None apart ∙ done.1)
 ]
 
--- a path and one edge more are a path
-pub path_on : (slots : List (Option Insn)) (a b c : ℕ) → Path slots a b → IsEdge slots b c → Path slots a c
-path_on slots a b c p edge = record {
-  rest = p.rest ++ c ∷ [];
-  is_path = IsPath-push slots a p.rest c p.is_path (subst (λ (n : ℕ). IsEdge slots n c) (sym p.ends) edge);
-  ends = end_of-push a p.rest c;
-}
-
 -- control comes to each slot to which it goes from the top of the stack
 pub comes_next : (slots : List (Option Insn)) (stack : List ℕ) (top to : ℕ)
     → AllComeTo slots stack → IsTop stack top → IsEdge slots top to → Path slots 0 to
 comes_next slots stack top to comes is edge =
     let long = is.long in
-    path_on slots 0 top to (subst (λ (n : ℕ). Path slots 0 n) is.slot_is (comes is.below (omega (arith, long)))) edge
+    Path-push slots 0 top to (subst (λ (n : ℕ). Path slots 0 n) is.slot_is (comes is.below (omega (arith, long)))) edge
 
 -- if control comes to each slot of a list and to one more slot, it comes to each slot of the longer list
 pub comes_more : (slots : List (Option Insn)) (list : List ℕ) (slot : ℕ)
@@ -113,7 +105,7 @@ module _ (maps : ℕ) (old back : List (Option Insn)) (origins : List ℕ) (plac
     to_last i lt =
         let below = length stack - 1 in
         let long : length stack ≡ below + 1 = omega (arith, lt) in
-        path_on old (slice_index stack i) (slice_index stack below) slot (at.ways i below (omega (arith, lt)) (omega (arith, lt)))
+        Path-push old (slice_index stack i) (slice_index stack below) slot (at.ways i below (omega (arith, lt)) (omega (arith, lt)))
         (edge (slice_index stack below) (record { below = below; long = long; slot_is = refl }))
 
     -- the longer stack is a path

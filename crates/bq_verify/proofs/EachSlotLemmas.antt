@@ -1,5 +1,5 @@
 -- What is shown of a program slot by slot, and over its edges.
-use Rattle.std.proofs.Common.{◌≡◌, ℕ, zero, suc, ◌+◌, ◌<◌, Bool, true, false, List, [], ◌∷◌, ◌++◌, Option, Some, None, refl, sym, subst, ◌∙◌, inl, inr, ℤ, arith}
+use Rattle.std.proofs.Common.{◌≡◌, ℕ, zero, suc, ◌+◌, ◌<◌, Bool, true, false, List, [], ◌∷◌, Option, Some, None, refl, sym, subst, ◌∙◌, inl, inr, ℤ, arith}
 use Rattle.std.specs.Prelude.{◌&&◌, ◌||◌}
 use Rattle.std.proofs.lemmas.Option.{same_Some, none-some}
 use Rattle.std.proofs.lemmas.Bool.{or_right}
@@ -10,7 +10,7 @@ use Rattle.bq_bpf.specs.Steps.{LeadsTo, instruction_at}
 use Rattle.bq_verify.specs.Edges.{IsEdge, IsStart}
 use Rattle.bq_bpf.specs.Instructions.{Leaves, distance_of, goes_on}
 use Rattle.bq_verify.specs.Paths.{IsPath, Path, path_end}
-use Rattle.bq_verify.proofs.EdgeLemmas.{end_of-push, IsPath-push, exit_is_last}
+use Rattle.bq_verify.proofs.EdgeLemmas.{Path-push, exit_is_last}
 use Rattle.bq_verify.specs.Straight.{held_along, OnEachPath, always}
 
 -- a fact of each instruction and its slot
@@ -103,13 +103,7 @@ edge_on program n insn here goes = record { insn = insn; here = here; leaves = i
 pub path_on : (program : List (Option Insn)) (n : ℕ) (insn : Insn)
     → instruction_at program n ≡ Some insn → goes_on insn ≡ true → Path program 0 n
     → Path program 0 (n + slots_of insn)
-path_on program n insn here goes p = record {
-  rest = p.rest ++ (n + slots_of insn) ∷ [];
-  is_path =
-      IsPath-push program 0 p.rest (n + slots_of insn) p.is_path
-      (subst (λ (k : ℕ). IsEdge program k (n + slots_of insn)) (sym p.ends) (edge_on program n insn here goes));
-  ends = end_of-push 0 p.rest (n + slots_of insn);
-}
+path_on program n insn here goes p = Path-push program 0 n (n + slots_of insn) p (edge_on program n insn here goes)
 
 -- where no instruction jumps, no jump is bad
 pub no_jump : (program : List (Option Insn)) (slot : ℕ) (d : ℤ)

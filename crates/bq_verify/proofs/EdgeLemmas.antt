@@ -10,7 +10,7 @@ use Rattle.bq_insn.proofs.OptionLemmas.{some_same, some_none}
 use Rattle.bq_bpf.specs.Steps.{LeadsTo, instruction_at}
 use Rattle.bq_verify.specs.Edges.{IsEdge, IsStart, IsForward}
 use Rattle.bq_bpf.specs.Instructions.{Leaves, distance_of, goes_on}
-use Rattle.bq_verify.specs.Paths.{IsPath, path_end}
+use Rattle.bq_verify.specs.Paths.{IsPath, Path, path_end}
 use Rattle.bq_verify.specs.Faults.{IsBadJump}
 use Rattle.bq_verify.specs.Passes.{IsGraphSound, IsAmongTargets, LeadsOut}
 use Rattle.bq_verify.specs.declared.targets.Targets.{Targets}
@@ -47,6 +47,14 @@ pub IsPath-push : (slots : List (Option Insn)) (from : ℕ) (rest : List ℕ) (t
     → IsPath slots from rest → IsEdge slots (path_end from rest) t → IsPath slots from (rest ++ t ∷ [])
 IsPath-push slots from [] t p e = (e, tt)
 IsPath-push slots from (n ∷ rest) t p e = (p.0, IsPath-push slots n rest t p.1 e)
+
+-- a path to a slot and an edge from there are a path
+pub Path-push : (slots : List (Option Insn)) (a b c : ℕ) → Path slots a b → IsEdge slots b c → Path slots a c
+Path-push slots a b c p edge = record {
+  rest = p.rest ++ c ∷ [];
+  is_path = IsPath-push slots a p.rest c p.is_path (subst (λ (n : ℕ). IsEdge slots n c) (sym p.ends) edge);
+  ends = end_of-push a p.rest c;
+}
 
 -- a path goes up
 pub path_rises : (slots : List (Option Insn)) → IsForward slots → (from : ℕ) (rest : List ℕ) → IsPath slots from rest

@@ -2,9 +2,10 @@ use Rattle.std.proofs.Common.{◌≡◌, ◌<◌, ◌∙◌, ℕ, ap, sym, subst
 use Rattle.std.proofs.lemmas.List.{get_or_read}
 use Rattle.bq_verify.specs.Paths.{Path}
 use Rattle.bq_verify.specs.Passes.{IsAmongTargets}
+use Rattle.bq_verify.proofs.EdgeLemmas.{Path-push}
 use Rattle.bq_import.specs.Search.{AllComeTo, is_open}
-use Rattle.bq_import.proofs.StackLemmas.{comes_queued, path_on}
-use Rattle.bq_import.proofs.landings.find_landings.Goals as goal
+use Rattle.bq_import.proofs.StackLemmas.{comes_queued}
+use Rattle.bq_import.proofs.landings.landings.Goals as goal
 
 pub loop-index-preserved : goal.loop-index-preserved
 loop-index-preserved c =
@@ -18,7 +19,7 @@ loop-index-preserved c =
     let here : Path c.args.slots.now 0 c.index.result.now =
     subst (λ (n : ℕ). Path c.args.slots.now 0 n) (sym read) (c.loop-index.invariant.1 c.loop-index.index inside) in
     let on : (to : ℕ) → IsAmongTargets c.targets_of-targets.result to → Path c.args.slots.now 0 to =
-    λ to of. path_on slots 0 slot to here (c.targets_of-targets.ensures.edges to of) in
+    λ to of. Path-push slots 0 slot to here (c.targets_of-targets.ensures.edges to of) in
     let landed : AllComeTo c.args.slots.now c.land.new.self.queue.items =
     subst (λ q. AllComeTo c.args.slots.now q.items) (sym c.land.ensures.queue) c.loop-index.invariant.1 in
     let once =
