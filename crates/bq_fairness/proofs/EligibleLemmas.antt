@@ -46,9 +46,9 @@ started_by q mark last (Some m) f h = rw h.0 f
 -- The current task keeps running, or gives way
 
 -- a task other than the current one, by the test of ids, is the next
-next_by_test : (m u : Task) (b : Bool) (k : ℕ) → b ≡ false → cond b k m.id ≡ m.id
-next_by_test m u false k e = refl
-next_by_test m u true k e = cc
+next_by_test : (m : Task) (b : Bool) (k : ℕ) → b ≡ false → cond b k m.id ≡ m.id
+next_by_test m false k e = refl
+next_by_test m true k e = cc
 
 -- the id of the next task, given the choice among all that are present
 abbrev next_from : List Task → Task → Option Task → ℕ
@@ -57,7 +57,7 @@ next_from q u o = let chosen = unwrap_or (id_of o) u.id in if chosen == u.id the
 -- if the earliest of all is not the current task, it is the next one
 next_is_chosen : (q : List Task) (u m : Task) → earliest (u ∷ q) ≡ Some m → eqb m.id u.id ≡ false → next_of eevdf u q ≡ m.id
 next_is_chosen q u m f e =
-    ap (λ o. next_from q u o) f ∙ next_by_test m u (eqb m.id u.id) (unwrap_or (id_of (earliest q)) u.id) e
+    ap (λ o. next_from q u o) f ∙ next_by_test m (eqb m.id u.id) (unwrap_or (id_of (earliest q)) u.id) e
 
 -- a chosen task that is not the current one is in the queue
 later_by_test : (q : List Task) (u m : Task) (b : Bool) → eqb u.id m.id ≡ b → eqb m.id u.id ≡ false

@@ -39,9 +39,9 @@ stays_by : (i : ℕ) (t u : Task) (xs : List Task) (b : Bool) → eqb t.id i ≡
 stays_by i t u xs true e n f = let k = ap (λ k. find_task k xs) (eqb-true t.id i e) in cc
 stays_by i t u xs false e n f = f
 
-comes_by : (i : ℕ) (t u : Task) (o : Option Task) (b : Bool) → cond b (Some t) o ≡ Some u → (o ≡ Some u) ⊎ (t ≡ u)
-comes_by i t u o true f = inr cc
-comes_by i t u o false f = inl f
+comes_by : (t u : Task) (o : Option Task) (b : Bool) → cond b (Some t) o ≡ Some u → (o ≡ Some u) ⊎ (t ≡ u)
+comes_by t u o true f = inr cc
+comes_by t u o false f = inl f
 
 -- A task leaves
 
@@ -123,7 +123,7 @@ pub step_came : (d : Discipline) (p : Running) (s : ProcessorStep) (i : ℕ) (u 
 step_came d p (Pass now) i u h n f = let c = charge_came d p now i u f in Charged now c.0 refl c.1 c.2
 step_came d p Decide i u h n f = Was (sym ((keeps_present d p (own_preempt d p.queue p.current) h).same i) ∙ f)
 step_came d p (Enter t) i u h n f =
-    entered_came d p t i u (comes_by i t u (task_at i p) (eqb t.id i) (sym (entered_stays p.current p.queue t i n.id) ∙ f))
+    entered_came d p t i u (comes_by t u (task_at i p) (eqb t.id i) (sym (entered_stays p.current p.queue t i n.id) ∙ f))
 step_came d p (Leave k) i u h n f = Was (left_came_by k i p.queue p.current u (eqb k i) refl h f)
 step_came d p Mark i u h n f = Was f
 

@@ -52,11 +52,11 @@ nearly : (x w : ℕ) → 15 ≤ w → w ≤ 88761 → x * 1024 ≤ w * vdelta_of
 nearly x w low high = omega arith
 
 -- what a Tick books is the time that passes, except for less than a weight
-books_by : (d : Discipline) (p : Running) (now : ℕ) (o : Option Task)
+books_by : (p : Running) (now : ℕ) (o : Option Task)
     → p.current ≡ o → IsWellFormed p → IsSome o
     → (booked_at p now ≤ 1024 * rise p now) × (1024 * rise p now ≤ booked_at p now + 88760)
-books_by d p now None e w h = cc
-books_by d p now (Some t) e w h =
+books_by p now None e w h = cc
+books_by p now (Some t) e w h =
     let f = current_present p.queue p.mark p.current p.last t e in
     let range = w.weights t.id t f in
     let here : booked_at p now ≡ t.weight * vdelta_of (rise p now) t.weight =
@@ -77,7 +77,7 @@ books : (d : Discipline) (p : Running) (nows : List ℕ) → IsWellFormed p → 
 books d p [] w h = (omega arith, omega arith, omega arith)
 books d p (now ∷ nows) w h =
     let q = ticked d p now in
-    let one = books_by d p now p.current refl w h in
+    let one = books_by p now p.current refl w h in
     let rest = books d q nows (well_formed_ticked d p now w) (stays_busy d p now h) in
     let last : q.last ≡ reading p.last now = (tick_keeps d p now w.distinct).last in
     let up : p.last ≤ reading p.last now = omega arith in

@@ -123,8 +123,8 @@ cfs_keeps = record {
 }
 
 -- how far two tasks come apart, in terms of what each was served and where it began
-apart_by : (m r av bv iv jv uv tv x : ℕ) → uv ≡ av + iv → tv ≡ bv + jv → av + iv ≤ jv + m + x → uv + bv ≤ tv + m + x
-apart_by m r av bv iv jv uv tv x e f h = omega arith
+apart_by : (m av bv iv jv uv tv x : ℕ) → uv ≡ av + iv → tv ≡ bv + jv → av + iv ≤ jv + m + x → uv + bv ≤ tv + m + x
+apart_by m av bv iv jv uv tv x e f h = omega arith
 
 -- under CFS two tasks that stay at a processor of the world are served in proportion
 pub cfs_world_serves : CfsWorldServes
@@ -142,7 +142,7 @@ cfs_world_serves count at r i j w w' earlier es before calls given answers ss a 
       y.0,
       ap (λ q. task_at i q) end ∙ x.1,
       ap (λ q. task_at j q) end ∙ y.1,
-      apart_by (max a.v (b.v + 1000000)) r a.v b.v _ _ x.0.v y.0.v (vdelta_of r a.weight) x.2 y.2 law,
+      apart_by (max a.v (b.v + 1000000)) a.v b.v _ _ x.0.v y.0.v (vdelta_of r a.weight) x.2 y.2 law,
     )
 
 -- EEVDF: each that is present has a deadline too, and each that enters
@@ -200,5 +200,5 @@ eevdf_world_serves count at r i j w w' earlier es before calls given answers ss 
       y.0,
       ap (λ q. task_at i q) end ∙ x.1,
       ap (λ q. task_at j q) end ∙ y.1,
-      apart_by (max a.v (b.v + vdelta_of b.slice b.weight)) r a.v b.v _ _ x.0.v y.0.v (vdelta_of r a.weight) x.2 y.2 law,
+      apart_by (max a.v (b.v + vdelta_of b.slice b.weight)) a.v b.v _ _ x.0.v y.0.v (vdelta_of r a.weight) x.2 y.2 law,
     )

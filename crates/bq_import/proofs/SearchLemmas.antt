@@ -135,11 +135,11 @@ module _ (old back : List (Option Insn)) (origins : List ℕ) (slot : ℕ) (insn
   }
 
 -- a jump over the slots from the front to a copy of a slot leads to this copy
-pub jumps_to : (back : List (Option Insn)) (origins : List ℕ) (places : List (Option ℕ)) (to place : ℕ)
+pub jumps_to : (back : List (Option Insn)) (origins : List ℕ) (to place : ℕ)
     (distance : ℤ) (start : place < length back)
     → distance ≡ pos (length back - place - 1) → IsCopyOfSlot back origins place to
     → JumpsTo back origins distance to
-jumps_to back origins places to place distance start is stands =
+jumps_to back origins to place distance start is stands =
     record { landing = place; apart = length back - place - 1; distance_is = is; long = omega (arith, start); stands = stands }
 
 -- a jump for which no target is found leads to a place where no instruction begins

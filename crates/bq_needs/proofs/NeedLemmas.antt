@@ -80,16 +80,16 @@ one_more state insn n before here r k below works known =
 same_map : (m n : ℕ) → kind.Map m ≡ kind.Map n → m ≡ n
 same_map m n e = cc
 
-same_standing : (state : AbstractState) (m n : ℕ) (o : Option AbstractValue)
+same_standing : (m n : ℕ) (o : Option AbstractValue)
     → CertaintyHolds (Pointer (kind.Map m) 0) o → CertaintyHolds (Pointer (kind.Map n) 0) o → m ≡ n
-same_standing state m n None first second = absurd first
-same_standing state m n (Some k) first second = same_map m n (sym first.0 ∙ second.0)
+same_standing m n None first second = absurd first
+same_standing m n (Some k) first second = same_map m n (sym first.0 ∙ second.0)
 
 -- register 1 names one map
 pub one_map : (state : AbstractState) (m n : ℕ) → CertaintyHoldsAt (Pointer (kind.Map m) 0) state 1
     → CertaintyHoldsAt (Pointer (kind.Map n) 0) state 1
     → m ≡ n
-one_map state m n first second = same_standing state m n (slice_index_or state.registers 1 None) first second
+one_map state m n first second = same_standing m n (slice_index_or state.registers 1 None) first second
 
 -- register 3 points to a value of the map that register 1 names
 pub value_pointed : (p : PolicySource) (state : AbstractState) (map : ℕ) (shape : MapShape) (bytes : ℕ)

@@ -62,13 +62,13 @@ module _ (seats : ℕ) (words : List ℕ) (accounts : List Account) (id : ℕ) (
   }
 
 -- an add of k adds k to its own counter and nothing to any other, by cases:
-added_same : (i j k x : ℕ) (b : Bool) → ((b ≡ true) × (i ≡ j)) ⊎ ((b ≡ false) × (i ≢ j)) → j ≡ i → cond {A = ℕ} b k 0 ≡ k
-added_same i j k x b (inl (e, same)) is = rw e refl
-added_same i j k x b (inr (e, other)) is = absurd (other (sym is))
+added_same : (i j k : ℕ) (b : Bool) → ((b ≡ true) × (i ≡ j)) ⊎ ((b ≡ false) × (i ≢ j)) → j ≡ i → cond {A = ℕ} b k 0 ≡ k
+added_same i j k b (inl (e, same)) is = rw e refl
+added_same i j k b (inr (e, other)) is = absurd (other (sym is))
 
-added_other : (i j k x : ℕ) (b : Bool) → ((b ≡ true) × (i ≡ j)) ⊎ ((b ≡ false) × (i ≢ j)) → j ≢ i → cond {A = ℕ} b k 0 ≡ 0
-added_other i j k x b (inl (e, same)) is = absurd (is (sym same))
-added_other i j k x b (inr (e, other)) is = rw e refl
+added_other : (i j k : ℕ) (b : Bool) → ((b ≡ true) × (i ≡ j)) ⊎ ((b ≡ false) × (i ≢ j)) → j ≢ i → cond {A = ℕ} b k 0 ≡ 0
+added_other i j k b (inl (e, same)) is = absurd (is (sym same))
+added_other i j k b (inr (e, other)) is = rw e refl
 
 -- an add to a word, and to an account with a seat, keeps the sums
 pub sums_after_add : (seats : ℕ) (words : List ℕ) (accounts : List Account) (id i k : ℕ) (v : Account)
@@ -80,10 +80,10 @@ sums_after_add seats words accounts id i k v rule at low some_seat =
     at low refl refl (λ none. absurd (omega arith))
     (λ j same.
     let h = sum-append j v.calls (Add i k (slice_index words i) ∷ []) in
-    let one : counter_added j (Add i k (slice_index words i)) ≡ k = added_same i j k 0 _ (eqb_tells i j) same in
+    let one : counter_added j (Add i k (slice_index words i)) ≡ k = added_same i j k _ (eqb_tells i j) same in
     omega (arith, h, one)) (λ j other.
     let h = sum-append j v.calls (Add i k (slice_index words i) ∷ []) in
-    let none : counter_added j (Add i k (slice_index words i)) ≡ 0 = added_other i j k 0 _ (eqb_tells i j) other in
+    let none : counter_added j (Add i k (slice_index words i)) ≡ 0 = added_other i j k _ (eqb_tells i j) other in
     omega (arith, h, none))
 
 -- a read of a word, which an account with a seat gets, keeps the sums

@@ -51,16 +51,16 @@ taken-some seed task drawn asked h = drawn-some asked _ _ h
 -- What is ahead
 
 -- the action that a task does next is that of its kind at which it stands
-at-kind : (kinds : List TaskKind) (c : TaskProgress) (action : Action) (o : Option TaskKind)
+at-kind : (c : TaskProgress) (action : Action) (o : Option TaskKind)
     → option_and_then (λ (kind : TaskKind). action_at kind c) o ≡ Some action
     → slice_get (option_map_or (λ (kind : TaskKind). kind.actions.items) o []) c.action ≡ Some action
-at-kind kinds c action None h = absurd (none-some action h)
-at-kind kinds c action (Some kind) h = else_of (is_same kind.loops (Some c.loops)) (slice_get kind.actions.items c.action) action h
+at-kind c action None h = absurd (none-some action h)
+at-kind c action (Some kind) h = else_of (is_same kind.loops (Some c.loops)) (slice_get kind.actions.items c.action) action h
 
 -- a task's next action stands among all that tasks of its kind do
 pub stands-at : (kinds : List TaskKind) (c : TaskProgress) (action : Action)
     → next_action kinds c ≡ Some action → slice_get (kind_actions kinds c.kind) c.action ≡ Some action
-stands-at kinds c action h = at-kind kinds c action (slice_get kinds c.kind) h
+stands-at kinds c action h = at-kind c action (slice_get kinds c.kind) h
 
 -- the actions ahead begin with the action at which the task stands
 ahead-is : (kinds : List TaskKind) (c : TaskProgress) (action : Action)

@@ -31,4 +31,4 @@ returns c =
     let distance : ℤ = to_z w16 (c.len.result - place - 1) in
     let is : distance ≡ pos (length c.args.self.now.slots.items - place - 1) = omega (arith, ints, inside, short) in
     if_some (JumpsTo c.args.self.now.slots.items c.args.self.now.origins.items distance) c.args.jump c.in-Some.to c.in-Some.is
-    (jumps_to c.args.self.now.slots.items c.args.self.now.origins.items c.args.places.now c.in-Some.to place distance inside is stands)
+    (jumps_to c.args.self.now.slots.items c.args.self.now.origins.items c.in-Some.to place distance inside is stands)
