@@ -1,10 +1,10 @@
 -- Texts that grow by the lines of events.
-use Rattle.std.proofs.Common.{◌≡◌, ℕ, Bool, true, false, cond, List, [], ◌∷◌, ◌++◌, refl, sym, ap, ◌∙◌, append_assoc, append-nil, subst, string_bytes}
+use Rattle.std.proofs.Common.{◌≡◌, ℕ, Bool, true, false, cond, List, [], ◌∷◌, ◌++◌, refl, sym, ap, ◌∙◌, append_assoc, append-nil, string_bytes}
 use Rattle.std.specs.Str.{IsUtf8, is_utf8}
 use Rattle.std.proofs.lemmas.Grind.{flat_map-append}
 use Rattle.std.proofs.lemmas.Str.{IsUtf8-from_is_utf8, is_utf8-from_IsUtf8}
 use Rattle.bq_trace.specs.Feeding.{with_feeds}
-use Rattle.bq_trace.specs.TraceEvents.{TraceEvent, Reported, TakesAll, Skipped}
+use Rattle.bq_trace.specs.TraceEvents.{TraceEvent, Reported, Skipped}
 use Rattle.bq_simulate.specs.Texts.{ByHook, WritesEvent, WritesAll, image_at, traced_lines, reported_lines}
 use Rattle.bq_simulate.specs.declared.trace_writer.TraceWriter.{TraceWriter}
 
@@ -47,17 +47,3 @@ writes_more images old mid new n x more h k = record {
 -- what the text takes of one event
 abbrev pub Takes : TraceWriter → ℕ → TraceEvent → TraceWriter → Type 0
 Takes old n traced new = (new.images ≡ old.images) × WritesEvent (image_at old.images) (string_bytes old.text) traced (string_bytes new.text)
-
--- the text that takes events has grown by its lines, and its images are the same
-pub writes_all : (old new : TraceWriter) (reported : Reported) → TakesAll Takes old reported new
-    → (new.images ≡ old.images) × WritesAll (image_at old.images) (string_bytes old.text) reported (string_bytes new.text)
-writes_all old new [] h = (
-  ap (λ (s : TraceWriter). s.images) h,
-  record { text = ap (λ (s : TraceWriter). string_bytes s.text) h ∙ sym (append-nil (string_bytes old.text)); fits = tt },
-)
-writes_all old new ((n, x) ∷ more) h =
-    let rest = writes_all h.0 new more h.2 in (
-      rest.0 ∙ h.1.0,
-      writes_more (image_at old.images) (string_bytes old.text) (string_bytes h.0.text) (string_bytes new.text) n x more h.1.1
-          (subst (λ i. WritesAll (image_at i) (string_bytes h.0.text) more (string_bytes new.text)) h.1.0 rest.1),
-    )
