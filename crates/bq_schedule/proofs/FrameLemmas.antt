@@ -45,11 +45,12 @@ pub task_kept : {Y : Type 0} (f : TaskFigures → Y) (s : Figures) (i j : ℕ) (
     f (task_in_figures (figures_with_task s i t) j) ≡ f (task_in_figures s j)
 task_kept f s i j t e = get_or-set_like f s.tasks i j t unknown e
 
--- after a processor is set, or a task, f reads of it what is set, and of each other what it was:
+-- after a processor is set, f reads of it what is set, and of each other what it was
 pub processor_set : {Y : Type 0} (f : ProcessorFigures → Y) (s : Figures) (i j : ℕ) (p : ProcessorFigures) → (i ≡ j → j < length s.processors)
     → f (processor_in_figures (figures_with_processor s i p) j) ≡ cond (eqb i j) (f p) (f (processor_in_figures s j))
 processor_set f s i j p inside = get_or-set_at f s.processors i j p unread inside
 
+-- after a task is set, f reads of it what is set, and of each other what it was
 pub task_set : {Y : Type 0} (f : TaskFigures → Y) (s : Figures) (i j : ℕ) (t : TaskFigures) → (i ≡ j → j < length s.tasks)
     → f (task_in_figures (figures_with_task s i t) j) ≡ cond (eqb i j) (f t) (f (task_in_figures s j))
 task_set f s i j t inside = get_or-set_at f s.tasks i j t unknown inside

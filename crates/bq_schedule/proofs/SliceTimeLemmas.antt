@@ -25,7 +25,7 @@ abbrev pub slice_seen : Figures → Option ShownByAnswer → Option Slice
 slice_seen s None = None
 slice_seen s (Some x) = slice_at x.processor (processor_in_figures s x.processor) x.now
 
--- the run that figures show to end with it
+-- the run that ends with an answer, as figures show it
 abbrev pub run_seen : Figures → Option ShownByAnswer → Option Slice
 run_seen s None = None
 run_seen s (Some x) = ended_run (processor_in_figures s x.processor).run (slice_at x.processor (processor_in_figures s x.processor) x.now)
@@ -35,7 +35,7 @@ pub record ReportsSeen (s : Figures) (o : Option ShownByAnswer) (c : Change) : T
   pub slice : c.slice ≡ slice_seen s o
   pub run : c.run ≡ run_seen s o
 
--- what is reported of an event has the slice and the run that figures show of its answer, by cases:
+-- what is reported of a reply has the slice and the run that figures show of it, by cases:
 seen-performed : (s : Figures) (e : Event) (r : Reply) → ReportsSeen s (shown_by_reply e r) (report_of_answer s e r)
 seen-performed s (EndWake processor now) (Placed task to by steps) = record { slice = refl; run = refl }
 seen-performed s (Drain processor now) (Drained count run by steps) = record { slice = refl; run = refl }
@@ -53,6 +53,7 @@ seen-if : (b : Bool) (s : Figures) (e : Event) (r : Reply) → is_there s e ≡ 
 seen-if true s e r there h = seen-performed s e r
 seen-if false s e r there h = seen-nothing s e r there h
 
+-- what is reported of an answered event has the slice and the run that figures show of its answer
 pub seen-change : (s : Figures) (e : Event) (a : Result Reply Refusal)
     → IsShownWithin (length s.processors) (shown_by_answer e a) → ReportsSeen s (shown_by_answer e a) (change s e a)
 seen-change s e (Ok r) h = seen-if (is_there s e) s e r refl h

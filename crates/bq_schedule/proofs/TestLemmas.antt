@@ -7,7 +7,7 @@ use Rattle.std.proofs.lemmas.Bool.Decides.{eqb_tells}
 abbrev pub Tells : Bool → Type 0 → Type 0 → Type 0
 Tells test P Q = ((test ≡ true) × P) ⊎ ((test ≡ false) × Q)
 
--- where a place of a list is set, f reads there what is set, and elsewhere what was there:
+-- where a place of a list is set, f reads there what is set, and elsewhere what was there, by a test of the places
 get_or-set_if : {X Y : Type 0} (f : X → Y) (xs : List X) (i j : ℕ) (y d : X) (b : Bool) → (i ≡ j → j < length xs) → Tells b (i ≡ j) (i ≢ j)
     → f (get_or (slice_set xs i y) j d) ≡ cond b (f y) (f (get_or xs j d))
 get_or-set_if f xs i j y d true inside (inl same) =
@@ -16,6 +16,7 @@ get_or-set_if f xs i j y d false inside (inl same) = absurd (cc)
 get_or-set_if f xs i j y d true inside (inr other) = absurd (cc)
 get_or-set_if f xs i j y d false inside (inr other) = ap f (get_or-set_other xs i j y d (λ e. other.1 (sym e)))
 
+-- the same, by the test that the places are equal
 pub get_or-set_at : {X Y : Type 0} (f : X → Y) (xs : List X) (i j : ℕ) (y d : X) → (i ≡ j → j < length xs)
     → f (get_or (slice_set xs i y) j d) ≡ cond (eqb i j) (f y) (f (get_or xs j d))
 get_or-set_at f xs i j y d inside = get_or-set_if f xs i j y d (eqb i j) inside (eqb_tells i j)
