@@ -14,7 +14,7 @@ use Rattle.bq_words.proofs.NumberLemmas.{below-Some}
 use Rattle.bq_asm.specs.Numbers.{negative, imm_of, offset_of, distance_in_word, wide_of, register_named}
 use Rattle.bq_asm.specs.Text.{signed_text}
 
--- `0` to `9`
+-- a byte is one of the digits `0` to `9`
 abbrev pub is_digit : ℕ → Bool
 is_digit b = nat_le 48 b && nat_le b 57
 

@@ -21,7 +21,7 @@ pub none_whole : {A B : Type 0} (Part : A → Type 0) (Whole : B → Type 0) (pa
     → ((b : B) → Whole b → Part (part b)) → GivesNone Part e → GivesNone Whole e
 none_whole Part Whole part e has none = none_of_part Part Whole e (λ b whole. (part b, has b whole)) none
 
--- refused words say none
+-- where words are refused they give nothing
 pub gives_none : {A : Type 0} (Gives : A → Type 0) (e : WordsFault) (why : String Global)
     → e ≡ Words why → GivesNone Gives e → (a : A) → ¬ Gives a
 gives_none {A} Gives e why is none = subst (λ (f : WordsFault). GivesNone Gives f) is none

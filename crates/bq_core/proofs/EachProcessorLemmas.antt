@@ -53,7 +53,7 @@ at_set_else Q xs i x d low here others j = elim (cases_eq j i) [
   | inr apart ↦ subst (Q j) (sym (get_or-set_other xs i j x d apart)) (others j apart)
 ]
 
--- a processor is written
+-- if all processors are well and a well one is written, all are well
 pub well_at : (w : World) (processor : ℕ) (q : Processor) → AllWell w → IsWell q → AllWell (with_processor w processor q)
 well_at w processor q all well = at_set (λ n (p : Processor). IsWell p) w.processors processor q new_processor well all
 

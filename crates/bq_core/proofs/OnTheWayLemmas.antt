@@ -22,7 +22,7 @@ use Rattle.bq_parts.proofs.TallyLemmas.{tally, tally-append}
 use Rattle.bq_parts.proofs.CountLemmas.{one, ones, one_self, count_of-tally}
 use Rattle.bq_parts.proofs.OnceLemmas.{count_of-held_by, as_number_le}
 
--- one entry is written
+-- a world in which one entry of the lobby is written
 abbrev pub with_entry : World → ℕ → LobbyEntry → World
 with_entry w id s = with_lobby w (set w.lobby id s)
 

@@ -10,7 +10,7 @@ use Rattle.bq_parts.specs.World.{World}
 use Rattle.bq_parts.specs.Choices.{PolicySemantics}
 use Rattle.bq_parts.specs.Steps.{WorldStep, WorldRun, ThroughAll}
 
--- one more step
+-- a run of a world and one more step are a run
 pub run_more : (s : PolicySemantics) (w mid w' : World) (es : List Event) (e : Event) (calls : List (List CounterCall))
     (c : List CounterCall) (answers : List (Result Reply Refusal)) (a : Result Reply Refusal)
     → WorldRun s w es calls answers mid → WorldStep s mid e c a w'

@@ -64,7 +64,7 @@ pub entries_admitted : (id : ℕ) (t : Task) (lobby lobby' : List LobbyEntry) (r
 entries_admitted id t lobby lobby' (Ok r) h = ap length h.2 ∙ length-set lobby id (Sleeping t)
 entries_admitted id t lobby lobby' (Err e) h = ap length h.2
 
--- that of a block
+-- a block leaves the lobby as long as it was
 pub entries_blocked : (d : Discipline) (processor now : ℕ) (p q : Processor) (lobby lobby' : List LobbyEntry)
     (r : Result Reply Refusal)
     → Blocks d processor now p lobby r q lobby' → length lobby' ≡ length lobby

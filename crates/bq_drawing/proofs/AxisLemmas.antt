@@ -8,7 +8,7 @@ pub marks_none : (s : PictureSetting) (step top edge : ℕ) (text : List ℕ) �
 unfolding axis_marks_text
 marks_none s step top edge text = sym (append-nil text)
 
--- one more
+-- the marks of an axis and one more mark are its marks
 pub marks_more : (s : PictureSetting) (step top edge number at : ℕ) (old now next : List ℕ)
     → at ≡ line_at s.extent step number → now ≡ old ++ axis_marks_text s step top edge number → next ≡ now ++ mark_if s top edge at
     → next ≡ old ++ axis_marks_text s step top edge (number + 1)

@@ -8,7 +8,7 @@ use Rattle.bq_drawing.specs.Keys.{tasks_shown}
 use Rattle.bq_drawing.specs.Legends.{entries_text, entry_text}
 use Rattle.bq_drawing.specs.Frames.{PictureSetting}
 
--- one more task
+-- the entries of a legend and that of one more task are those of the legend
 pub entries_next : (s : PictureSetting) (first : ℕ) (tasks : List ℕ) (place d : ℕ) (whole now next : List ℕ) → place < length tasks
     → next ≡ now ++ entry_text s first place (get_or tasks place d) → now ++ entries_text s first place (drop place tasks) ≡ whole
     → next ++ entries_text s first (place + 1) (drop (place + 1) tasks) ≡ whole
@@ -18,7 +18,7 @@ entries_next s first tasks place d whole now next there e is =
     ap (λ t. t ++ later) e ∙ append_assoc now (entry_text s first place (get_or tasks place d)) later
     ∙ sym (at_drop_more (λ (l : List ℕ). now ++ entries_text s first place l) tasks place d there) ∙ is
 
--- all of them
+-- once no task is left the entries are those of the whole legend
 pub entries_end : (s : PictureSetting) (first place : ℕ) (tasks whole now : List ℕ) → drop place tasks ≡ []
     → now ++ entries_text s first place (drop place tasks) ≡ whole → now ≡ whole
 unfolding entries_text
@@ -40,7 +40,7 @@ shown_next drawn tasks i d whole now next there e is =
     ap (λ t. t ++ later) e ∙ chosen now task later (list_any (is_at (nat_cmp task)) drawn)
     ∙ sym (at_drop_more (λ (l : List ℕ). now ++ tasks_shown l drawn) tasks i d there) ∙ is
 
--- all of them
+-- once no task is left the tasks that are shown are those of the whole list
 pub shown_end : (drawn tasks : List ℕ) (i : ℕ) (whole now : List ℕ)
     → drop i tasks ≡ [] → now ++ tasks_shown (drop i tasks) drawn ≡ whole → now ≡ whole
 shown_end drawn tasks i whole now none is =

@@ -94,7 +94,7 @@ run_written names s h given part start run name args old now new is_start is_run
     ∙ ap (λ x. old ++ (run_event run x args ++ ends)) n ∙ ap (λ x. old ++ (run_event run (run_name names run.task) x ++ ends)) a
     ∙ ap (λ x. old ++ perfetto_run names s h (Some start) x) (sym is_run) ∙ ap (λ x. old ++ perfetto_run names s h x part) (sym is_start)
 
--- one more processor's tracks
+-- the tracks of the first processors and those of one more are tracks of processors
 pub tracks_more : (number processor : ℕ) (old now next : List ℕ)
     → processor ≡ number → GrowsByPart (AreParts (λ p own. own ≡ tracks_text p) number) old now → next ≡ now ++ tracks_text processor
     → GrowsByPart (AreParts (λ p own. own ≡ tracks_text p) (number + 1)) old next

@@ -49,7 +49,7 @@ pub runners_none : (w : Window) (s : Figures) (rows : Held) → HoldsRunners w s
 unfolding HoldsRunners
 runners_none w s rows = refl
 
--- one more processor's
+-- the runs that are held go on by the run of one more processor
 pub runner_held : (w : Window) (s : Figures) (number : ℕ) (p : ProcessorFigures) (old now new : Held) → HoldsRunners w s number old now
     → p ≡ processor_in_figures s number → HoldsRun w p.running (run_on p) now new → HoldsRunners w s (number + 1) old new
 unfolding HoldsRunners
@@ -141,7 +141,7 @@ shapes_next {A} draw items i d whole now next there e is =
     ap (λ t. t ++ later) e ∙ append_assoc now (draw (get_or items i d)) later
     ∙ sym (at_drop_more (λ (l : List A). now ++ flat_map draw l) items i d there) ∙ is
 
--- all of them
+-- once no item is left the shapes are those of all items
 pub shapes_end : {A : Type 0} (draw : A → List ℕ) (items : List A) (i : ℕ) (whole now : List ℕ) → drop i items ≡ []
     → now ++ flat_map draw (drop i items) ≡ whole → now ≡ whole
 shapes_end {A} draw items i whole now none is = sym (append-nil now) ∙ sym (ap (λ (l : List A). now ++ flat_map draw l) none) ∙ is
@@ -179,7 +179,7 @@ lanes_next room draw lanes after items i d place lane whole now next there needs
     ∙ ap (λ (l : List ℕ). now ++ (shape ++ in_lanes room draw l later)) left
     ∙ sym (at_drop_more (λ (l : List TaskInterval). now ++ in_lanes room draw lanes l) items i d there) ∙ is
 
--- all of them
+-- once no interval is left the drawn lanes are those of all intervals
 pub lanes_end : (room : TaskInterval → TaskInterval) (draw : ℕ → TaskInterval → List ℕ) (lanes : List ℕ) (items : List TaskInterval) (i : ℕ)
     (whole now : List ℕ)
     → drop i items ≡ [] → now ++ in_lanes room draw lanes (drop i items) ≡ whole → now ≡ whole
@@ -280,7 +280,7 @@ pub waiting_none : (w : Window) (s : Figures) (rows : Held) → HoldsWaiting w s
 unfolding HoldsWaiting
 waiting_none w s rows = refl
 
--- one more task's
+-- the waits that are held go on by the wait of one more task
 pub waiting_held : (w : Window) (s : Figures) (id : ℕ) (wait : Option Slice) (old now new : Held) → HoldsWaiting w s id old now
     → wait ≡ wait_at s id (task_in_figures s id).processor → HoldsWait w wait now new → HoldsWaiting w s (id + 1) old new
 unfolding HoldsWaiting

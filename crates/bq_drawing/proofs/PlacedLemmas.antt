@@ -46,7 +46,7 @@ lanes_more room lanes after items i d place lane whole there needs takes keeps i
     ap (λ (l : List ℕ). lanes_after room l (drop (i + 1) items)) left
     ∙ sym (at_drop_more (λ (l : List TaskInterval). lanes_after room lanes l) items i d there) ∙ is
 
--- all of them
+-- once no interval is left there are as many lanes as for all of them
 pub lanes_all : (room : TaskInterval → TaskInterval) (lanes : List ℕ) (items : List TaskInterval) (i : ℕ) (whole : List ℕ) → drop i items ≡ []
     → lanes_after room lanes (drop i items) ≡ whole → length lanes ≡ length whole
 unfolding lanes_after
@@ -71,7 +71,7 @@ left_more room lanes after items i d place lane whole now next there needs takes
     ∙ ap (λ (l : List ℕ). saturating_sum now (without_lane (lane_of (room here) lanes) + left_out room l later)) left
     ∙ sym (at_drop_more (λ (l : List TaskInterval). saturating_sum now (left_out room lanes l)) items i d there) ∙ is
 
--- all of them
+-- once no interval is left the count of those left out is that of all of them
 pub left_all : (room : TaskInterval → TaskInterval) (lanes : List ℕ) (items : List TaskInterval) (i whole now : ℕ) → drop i items ≡ [] → now < 2 ^ 64
     → saturating_sum now (left_out room lanes (drop i items)) ≡ whole → now ≡ whole
 unfolding left_out

@@ -67,7 +67,7 @@ trace_written first last was now final w policies images reported event_limit le
 abbrev pub TraceRun : Type 0 → Type 0 → Type 0
 TraceRun W E = Passing TraceWriter W E
 
--- what its output has
+-- the bytes that the output of a run that writes a trace has
 abbrev pub got : {W E : Type 0} → (W → Option (List ℕ)) → TraceRun W E → Option (List ℕ)
 got contents run = contents (counted_inner run.output)
 

@@ -112,7 +112,7 @@ views_simulation old new policies w reported event_limit left empty zero sound t
 abbrev pub ViewedRun : Type 0 → Type 0 → Type 0
 ViewedRun W E = Passing OffsetViewer W E
 
--- what its output has
+-- the bytes that the output of a viewed run has
 abbrev pub got : {W E : Type 0} → (W → Option (List ℕ)) → ViewedRun W E → Option (List ℕ)
 got contents run = contents (counted_inner run.output)
 

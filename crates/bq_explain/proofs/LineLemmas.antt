@@ -3,7 +3,7 @@ use Rattle.std.proofs.Common.{◌≡◌, ◌∙◌, ℕ, ◌+◌, ◌<◌, List,
 use Rattle.std.specs.Prelude.{flat_map}
 use Rattle.std.proofs.lemmas.List.{at_drop_more}
 
--- one line more
+-- the lines of a list go on by the line of one more item
 pub one_line_more : {A : Type 0} (line : A → List ℕ) (items : List A) (i : ℕ) (d : A) (whole now next : List ℕ)
     → i < length items → next ≡ now ++ line (get_or items i d) → now ++ flat_map line (drop i items) ≡ whole
     → next ++ flat_map line (drop (i + 1) items) ≡ whole

@@ -4,7 +4,7 @@ use Rattle.std.specs.Prelude.{codes, slice_index_or}
 use Rattle.bq_needs.specs.Accesses.{AreBytesSet}
 use Rattle.bq_explain.specs.Texts.{AreByteRuns, no_byte, unset_byte, one_run, EndsAt, IsStackText, byte_run_text, written_stack_text}
 
--- nothing is said yet
+-- before the first byte an empty text has all runs of bytes
 pub none_yet : (set : List Bool) (text : List ℕ) → text ≡ [] → AreByteRuns set (max 0 0) text
 none_yet set text is = subst (λ (t : List ℕ). AreByteRuns set 0 t) (sym is) (no_byte set)
 
@@ -24,7 +24,7 @@ byte_not_set set byte past text behind unset are =
     let next : byte + 1 ≡ max (byte + 1) past = omega arith in
     subst (λ (n : ℕ). AreByteRuns set n text) next (unset_byte set text byte (subst (λ (n : ℕ). AreByteRuns set n text) here are) unset)
 
--- a run is added
+-- the runs of bytes before a run, and that run, are the runs up to its end
 pub with_run : (set : List Bool) (byte past until : ℕ) (text run described : List ℕ)
     → past ≤ byte → byte < until → until ≤ 512 → AreBytesSet set byte until → EndsAt set until → AreByteRuns set (max byte past) text
     → run ≡ byte_run_text byte until → described ≡ text ++ run
@@ -37,14 +37,14 @@ with_run set byte past until text run described behind some inside all ends are 
     subst (λ (n : ℕ). AreByteRuns set n described) next
     (subst (λ (t : List ℕ). AreByteRuns set until t) (sym (text_is_described ∙ ap (λ (t : List ℕ). text ++ t) run_is)) more)
 
--- all runs are reported
+-- at the end of the stack the text has all runs of bytes
 pub all_described : (set : List Bool) (byte past : ℕ) (text : List ℕ)
     → byte ≡ 512 → past ≤ 512 → AreByteRuns set (max byte past) text → AreByteRuns set 512 text
 all_described set byte past text whole most are =
     let same : max byte past ≡ 512 = omega arith in
     subst (λ (n : ℕ). AreByteRuns set n text) same are
 
--- no run is reported
+-- where no byte is set the text says that nothing is known to be written
 pub none_written : (set : List Bool) (runs text : List ℕ) → AreByteRuns set 512 runs → runs ≡ []
     → text ≡ codes " stack: nothing known to be written\n"
     → IsStackText set text
@@ -55,7 +55,7 @@ described_from : (runs text : List ℕ) → (runs ≡ [] → ⊥) → text ≡ c
 described_from [] text some is = absurd (some refl)
 described_from (first ∷ rest) text some is = is
 
--- runs are reported
+-- where some byte is set the text lists the runs that are written
 pub some_written : (set : List Bool) (runs text : List ℕ) → AreByteRuns set 512 runs → (runs ≡ [] → ⊥)
     → text ≡ codes " stack:" ++ (runs ++ codes " written\n")
     → IsStackText set text

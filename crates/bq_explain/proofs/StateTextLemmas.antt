@@ -12,7 +12,7 @@ use Rattle.bq_explain.proofs.UnknownLemmas.{names_unknown}
 use Rattle.bq_needs.specs.Texts.{known_text}
 use Rattle.bq_needs.proofs.DescribedWordLemmas.{describes_known}
 
--- one register more
+-- a text that describes the first registers and one more describes them all
 pub describes_register : (f : Setting) (s : State) (before : List ℕ) (r : ℕ) (known : Option AbstractValue)
     → RegisterIsAsKnown f.shapes known (s.register r) → DescribesRegisters f s before
     → DescribesRegisters f s (before ++ known_register_text f.shapes r known)
@@ -20,7 +20,7 @@ describes_register f s before r None holds described = subst (λ (t : List ℕ).
 describes_register f s before r (Some k) (n, is, describes) described =
     one_register f s before (known_text f.shapes k) r n described is (describes_known f.shapes k n describes)
 
--- the first registers
+-- the text of the first registers describes them in each state that is contained
 pub describes_registers : (f : Setting) (s : State) (v : AbstractState)
     → Contains f v s → (n : ℕ) → DescribesRegisters f s (registers_below f.shapes n v.registers)
 describes_registers f s v contains zero = no_register f s
@@ -71,7 +71,7 @@ pub is_state_text : (shapes : List MapShape) (v : AbstractState) (registers unse
 is_state_text shapes v registers unset stack kept text registers_are unset_are is_stack kept_are is =
     record { stack = stack; text_is = rw registers_are at rw unset_are at rw kept_are at is; is_stack = is_stack }
 
--- the whole text
+-- the text of an abstract state describes each state that it contains
 pub describes_state : (shapes : List MapShape) (v : AbstractState) (text : List ℕ)
     → IsStateText shapes v text → (f : Setting) (s : State) → f.shapes ≡ shapes → Contains f v s
     → DescribesState f s text

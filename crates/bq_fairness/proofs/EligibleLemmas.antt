@@ -106,7 +106,7 @@ pub runs_earliest : (p : Running) → HasDistinctIds (present_at p)
     → IfSome (decided eevdf p p.current (own_preempt eevdf p.queue p.current)).current (IsEarliestOf (present_at p))
 runs_earliest p d = decided_earliest p.queue p.mark p.current p.last d
 
--- the earliest is eligible
+-- the earliest eligible task of a list is eligible
 pub earliest_is_eligible : (xs : List Task) (m : Task) → HasDistinctIds xs → IsEarliestOf xs m → is_eligible xs m ≡ true
 earliest_is_eligible xs m d e = (of_some (IsChosen xs) (earliest xs) m (earliest_is_chosen xs d) e).1
 

@@ -209,7 +209,7 @@ close_stepped d reach P law V r n p (Leave k) i j u t w h new le li lj c = close
 close_stepped d reach P law V r n p Mark i j u t w h new le li lj c =
     (u, t, record { one = c.one; other = c.other; runs = c.runs; ever = c.ever })
 
--- where they have got
+-- u and t stand at a processor, and u is beyond V or what t reaches by no more than one rise
 abbrev pub EverClose : ℕ → ℕ → ℕ → ℕ → (Task → ℕ) → (Task → Type 0) → Running → Type 0
 EverClose V r i j reach P p =
     (u : Task) × (t : Task) × (task_at i p ≡ Some u) × (task_at j p ≡ Some t)

@@ -118,7 +118,7 @@ block_leaves d w w' processor now calls task run h =
     ap (λ (x : Processor). x.running) (written w w' _ processor k.0 _ h.0 k.4 refl)
     ∙ block_share_leaves d (processor_at w processor) k.0 processor now w.lobby k.1 (Blocked task run) k.2
 
--- under any discipline
+-- under any discipline a Tick or a Block of the world leaves what that of a processor does
 pub discipline_passes : DisciplinePasses
 discipline_passes = record { tick_share = tick_share_leaves; block_share = block_share_leaves; tick = tick_leaves; block = block_leaves }
 

@@ -97,7 +97,7 @@ left_came_by k i q o u false e d f = sym (left_stays k i q o e) ∙ f
 
 -- Any step
 
--- ids stay distinct
+-- a step leaves the ids of the tasks that are present distinct
 pub step_distinct : (d : Discipline) (p : Running) (s : ProcessorStep)
     → HasDistinctIds (present_at p) → EntersNew p s → HasDistinctIds (present_at (stepped d p s))
 step_distinct d p (Pass now) h n = charged_distinct d p now h

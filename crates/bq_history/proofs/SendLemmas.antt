@@ -26,18 +26,18 @@ chain_send T s = view_send (chain.the_row T) _ _ _ _ (chain_inside T s)
 chunk_inside : (R : RattleType) → IsSend R → IsSend (chunk.the_row R)
 chunk_inside R s = search (crosses, sendable) depth 60 fits 20000
 
--- records that were taken room for together
+-- records that were taken room for together may cross threads, where a record may
 pub chunk_send : (R : RattleType) → IsSend R → IsSend (Chunk.the_row R)
 chunk_send R s = view_send (chunk.the_row R) _ _ _ _ (chunk_inside R s)
 
 log_inside : (R : RattleType) → IsSend R → IsSend (log.the_row R)
 log_inside R s = declared_send (log.the_type R) (chain_send (Chunk.the_row R) (chunk_send R s), (search sendable, tt))
 
--- the list of records
+-- the list of records may cross threads, where a record may
 pub log_send : (R : RattleType) → IsSend R → IsSend (Log.the_row R)
 log_send R s = view_send (log.the_row R) _ _ _ _ (log_inside R s)
 
--- the journal
+-- the journal may cross threads, where what it is made of may
 pub journal_send : (R P D N : RattleType) (n : Naming.Ghosts N.Denot) → IsSend R → IsSend D → IsSend (Journal.the_row R P D N n)
 journal_send R P D N n s d =
     view_send (inside.the_row R P D N n) _ _ _ _

@@ -81,7 +81,7 @@ piece_filled start size k header piece c c' done e =
     ap (λ n. take n c') further ∙ e ∙ ap (λ l. l ++ piece k) done ∙ append_assoc header pieces (piece k)
     ∙ ap (λ i. header ++ (pieces ++ piece i)) here ∙ ap (λ l. header ++ l) (sym (pieces-more piece 0 k))
 
--- once all are there
+-- once all pieces are filled in the bytes are the header and all pieces
 pub pieces_filled : (start size n k : ℕ) (header : List ℕ) (piece : ℕ → List ℕ) (c : List ℕ)
     → k ≡ n → take (start + size * k) c ≡ header ++ flat_map piece (range_with_len 0 k) → length c ≡ start + size * n
     → c ≡ header ++ flat_map piece (range_with_len 0 n)

@@ -22,7 +22,7 @@ place_header_filled limit f c0 c1 c2 c3 c4 c5 id weight mask slice waking prev s
     let s4 = more_filled 16 24 c3 c4 _ _ _ h4 (ap u64_bytes e4) s3 in
     more_filled 24 40 c4 c5 _ _ _ h5 (four_same e5 e6 e7 e8) s4
 
--- one more load
+-- the context of `place` is filled up to one more load
 pub load_filled : (limit : ℕ) (f : PlaceFacts) (p load : ℕ) (c c' : List ℕ) →
     take (40 + 4 * p) c ≡ place_header limit f ++ flat_map (λ p. u32_bytes (slice_index f.loads p)) (range_with_len 0 p) →
     load ≡ slice_index f.loads p → take (40 + 4 * p + 4) c' ≡ take (40 + 4 * p) c ++ u32_bytes load →
@@ -31,7 +31,7 @@ load_filled limit f p load c c' done e h =
     piece_filled 40 4 p (place_header limit f) (λ p. u32_bytes (slice_index f.loads p)) c c' done
     (h ∙ ap (λ n. take (40 + 4 * p) c ++ u32_bytes n) e)
 
--- once all are there
+-- once all loads are filled in the bytes are the context of `place`
 pub place_filled : (limit p : ℕ) (f : PlaceFacts) (c : List ℕ) → p ≡ limit →
     take (40 + 4 * p) c ≡ place_header limit f ++ flat_map (λ p. u32_bytes (slice_index f.loads p)) (range_with_len 0 p) →
     length c ≡ 40 + 4 * limit → c ≡ place_bytes_below limit f

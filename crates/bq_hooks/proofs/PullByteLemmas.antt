@@ -16,7 +16,7 @@ unfolding pull_header
 pull_header_filled f c0 c1 c2 puller source puller_size source_size count shown own e1 e2 e3 e4 h1 e5 e6 e7 h2 =
     more_filled 16 32 c1 c2 _ _ _ h2 (four_same {d = 0} e5 e6 e7 refl) (more_filled 0 16 c0 c1 [] _ _ h1 (four_same e1 e2 e3 e4) refl)
 
--- one more task
+-- the context of `pull` is filled up to one more task
 pub task_filled : (f : PullFacts) (k : ℕ) (o : Option Task) (c c' : List ℕ) →
     take (32 + 16 * k) c ≡ pull_header f ++ flat_map (λ k. task_bytes 0 (slice_get f.movable k)) (range_with_len 0 k) →
     o ≡ slice_get f.movable k → take (32 + 16 * k + 16) c' ≡ take (32 + 16 * k) c ++ task_bytes 0 o →
@@ -25,7 +25,7 @@ task_filled f k o c c' done e h =
     piece_filled 32 16 k (pull_header f) (λ k. task_bytes 0 (slice_get f.movable k)) c c' done
     (h ∙ ap (λ o. take (32 + 16 * k) c ++ task_bytes 0 o) e)
 
--- once eight are there
+-- once eight tasks are filled in the bytes are the context of `pull`
 pub pull_filled : (k : ℕ) (f : PullFacts) (c : List ℕ) → k ≡ 8 →
     take (32 + 16 * k) c ≡ pull_header f ++ flat_map (λ k. task_bytes 0 (slice_get f.movable k)) (range_with_len 0 k) →
     length c ≡ 160 → c ≡ pull_bytes f

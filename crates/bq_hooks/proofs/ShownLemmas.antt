@@ -54,6 +54,6 @@ shown_at queue [] (suc n) k h l = refl
 shown_at queue (x ∷ xs) (suc n) zero h l = h.0
 shown_at queue (x ∷ xs) (suc n) (suc k) h l = shown_at queue xs n k h.1 (omega arith)
 
--- of eight at most
+-- as many ids are shown as there are tasks, but eight at most
 pub length-shown : (xs : List Task) → length (take 8 (ids xs)) ≡ min (length xs) 8
 length-shown xs = omega (arith, length-take 8 (ids xs), length-map xs (λ (t : Task). t.id))

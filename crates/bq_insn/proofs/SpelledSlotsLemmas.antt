@@ -62,7 +62,7 @@ again_branch : (w : Width) (c : Condition) (r : Bool) (s : Slot) (next : Option 
     → s.opcode ≡ opcode_of (form.Branch w c r) → read s next ≡ Some (insn_of (form.Branch w c r) s next)
 again_branch w c r s next h = ap (option_map (λ f. insn_of f s next)) (ap form_of h ∙ known_branch w c r)
 
--- the first slot
+-- the first slot of a list, a slot of zeros if there is none
 abbrev pub head_of : List Slot → Slot
 head_of [] = slot 0 0 0 0 0
 head_of (s ∷ rest) = s

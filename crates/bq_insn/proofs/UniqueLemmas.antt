@@ -163,7 +163,7 @@ not_empty : (slots : List Slot) (rest : List ℕ) → 1 ≤ length slots → [] 
 not_empty [] rest some e = omega arith
 not_empty (s ∷ slots) rest some e = cc
 
--- an instruction has bytes
+-- an instruction has at least one byte
 pub some_bytes : (i : Insn) (rest : List ℕ) → is_insn i ≡ true → Fits i → [] ≡ insn_bytes i ++ rest → ⊥
 some_bytes i rest h fits e = let read = is_read i h fits in not_empty (spelled i) rest read.some e
 
@@ -171,7 +171,7 @@ some_bytes i rest h fits e = let read = is_read i h fits in not_empty (spelled i
 pub front_cancelled : (front x y : List ℕ) → front ++ x ≡ front ++ y → x ≡ y
 front_cancelled front x y e = sym (drop_at front x (length front) refl) ∙ ap (drop (length front)) e ∙ drop_at front y (length front) refl
 
--- instruction by instruction
+-- two programs with the same bytes are the same, instruction by instruction
 pub one_program : OneProgram
 one_program [] [] ha hb fa fb e = refl
 one_program [] (b ∷ bs) ha hb fa fb e = absurd (some_bytes b (spelling bs) (and_parts (is_insn b) (list_all is_insn bs) hb).0 fb.0 e)

@@ -28,7 +28,7 @@ length-shapes_bytes (s ∷ shapes) = omega (
   length-shapes_bytes shapes,
 )
 
--- the header as one
+-- the parts of a header, one after the other, are the bytes of the header
 pub regroup_header : (h : Header) (rest : List ℕ)
     → image_opening h.version h.hook (length h.shapes) ++ (shapes_bytes h.shapes ++ (to_le_bytes w32 h.slots ++ rest)) ≡ header_bytes h ++ rest
 regroup_header h rest =

@@ -30,7 +30,7 @@ one_image bytes v w h k a b p q x y =
 good_length : (n slots : ℕ) → n ≡ 8 * slots → 1 ≤ slots → slots ≤ 4096 → ((n % 8 == 0) && (nat_le 1 n && nat_le n 32768)) ≡ true
 good_length n slots whole some most = grind (arith, nat_tests)
 
--- reading gives one answer
+-- bytes that read as an image do not read as a fault
 pub not_framed : (bytes : List ℕ) (x : Spelled × List ℕ) (f : LoadFault) → frame_at bytes ≡ Ok x → frame_at bytes ≡ Err f → ⊥
 not_framed bytes x f e g = cc
 

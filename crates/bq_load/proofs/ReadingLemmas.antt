@@ -69,7 +69,7 @@ shape_length bytes rest e =
       length-drop 2 a.0.1,
     )
 
--- one more shape
+-- reading the shapes goes on by one more shape
 pub shapes_on : (count i : ℕ) (rest after bytes : List ℕ) → i < count → shape_at rest ≡ Ok after
     → shapes_at (count - i) rest ≡ shapes_at count bytes
     → shapes_at (count - (i + 1)) after ≡ shapes_at count bytes
@@ -89,7 +89,7 @@ shapes_fail count i rest bytes e lt h so_far =
     let one : shapes_at (count - i) rest ≡ Err e = rw (k, h) refl in
     sym so_far ∙ one
 
--- no shape is left
+-- once no shape is left the shapes are read
 pub shapes_end : (count i : ℕ) (rest bytes : List ℕ) → count ≤ i → shapes_at (count - i) rest ≡ shapes_at count bytes
     → shapes_at count bytes ≡ Ok rest
 unfolding shapes_at

@@ -64,7 +64,7 @@ pub pointer_no_number : (state : AbstractState) (insn : Insn) (r : ℕ) (k : Abs
 pointer_no_number state insn r k first numbers =
     first.pointer.no_number (numbers r k first.pointer.below first.pointer.is_worked_on first.pointer.is_known)
 
--- one register more
+-- if all that is worked on in the registers below one is a number, and in that one too, so it is below the next
 pub one_more : (state : AbstractState) (insn : Insn) (n : ℕ)
     → ((r : ℕ) (k : AbstractValue) → r < n → works_on insn r ≡ true → known_in state r ≡ Some k → k.kind ≡ kind.Number)
     → ((k : AbstractValue) → works_on insn n ≡ true → known_in state n ≡ Some k → k.kind ≡ kind.Number)

@@ -37,21 +37,21 @@ slip_inside T s = search (crosses, knot.crosses, sendable) depth 60 fits 20000
 slip_send : (T : RattleType) → IsSend T → IsSend (Slip.the_row T)
 slip_send T s = view_send (slip.the_row T) _ _ _ _ (slip_inside T s)
 
--- a spare slip for a chunk, or none, may
+-- a spare slip for a chunk, or none, may cross threads, where a slip may
 spare_send : (R : RattleType) → IsSend (Slip.the_row (Chunk.the_row R)) → IsSend (Option.the_row (Slip.the_row (Chunk.the_row R)))
 spare_send R s = search (crosses, sendable) depth 20
 
--- room for a record may, where the record may
+-- room for a record may cross threads, where the record may
 pub room_send : (R : RattleType) → IsSend R → IsSend (Room.the_row R)
 room_send R s =
     view_send (room.the_row R) _ _ _ _
     (declared_send (room.the_type R) (spare_send R (slip_send (Chunk.the_row R) (chunk_send R s)), tt))
 
--- the rooms for calls, or none, may
+-- the rooms for calls, or none, may cross threads
 calls_send : IsSend (Option.the_row CallRooms.the_row)
 calls_send = search (crosses, list.the_send, call.the_send, sendable) depth 40
 
--- a seat may
+-- a seat may cross threads
 pub seat_send : (N : RattleType) (n : Naming.Ghosts N.Denot) (m : Counting.Ghosts N.Denot)
     → IsSend (Seat.the_row Record.the_row WorldPart.the_row JournalState.the_row N reported.ghosts n m)
 seat_send N n m =
@@ -60,11 +60,11 @@ seat_send N n m =
     (declared_send (seat.the_type Record.the_row WorldPart.the_row JournalState.the_row N reported.ghosts n m)
     (search (working.the_send, crosses, sendable) depth 20, (spare, (spare, (calls_send, tt)))))
 
--- a receipt may
+-- a receipt may cross threads
 pub receipt_send : IsSend (Receipt.the_row Record.the_row)
 receipt_send = search (receipt.the_send, record_send) depth 10
 
--- a seat that has come back, and its receipts, may
+-- a seat that has come back may cross threads, with its receipts
 pub done_send : (N : RattleType) (n : Naming.Ghosts N.Denot) (m : Counting.Ghosts N.Denot) → IsSend (ReturnedSeat.the_row N n m)
 done_send N n m =
     declared_send (ReturnedSeat.the_type N n m) (seat_send N n m, (Vec-send (Receipt.the_row Record.the_row) receipt_send, tt))

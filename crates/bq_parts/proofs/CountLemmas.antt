@@ -13,7 +13,7 @@ use Rattle.bq_parts.proofs.TallyLemmas
 abbrev pub one : ℕ → Task → ℕ
 one id t = cond (has_id id t) 1 0
 
--- 1 for that id
+-- the tally that counts 1 for one id, and 0 for all others
 abbrev pub ones : ℕ → ℕ → ℕ → ℕ
 ones id i mask = cond (eqb i id) 1 0
 

@@ -43,7 +43,7 @@ pub as_number_le : (b : Bool) → as_number b ≤ 1
 as_number_le true = omega arith
 as_number_le false = omega arith
 
--- no id stands twice
+-- in an orderly world no id stands twice
 pub standing_once : (w : World) (id : ℕ) → IsOrderly w → standing_count id w ≤ 1
 standing_once w id o = omega (arith, o.once.away id, as_number_le (is_away (entry_of_id w id)))
 
@@ -66,7 +66,7 @@ once_at w processor o = λ id.
       count_of-append id (present_at p.running) (inbox w processor),
     )
 
--- without its hand
+-- in an orderly world each task stands once among those present at a processor and in its inbox
 pub each_once_runnable : (w : World) (processor : ℕ) → IsOrderly w
     → HasEachOnce (present_at (processor_at w processor).running ++ inbox w processor)
 each_once_runnable w processor o =

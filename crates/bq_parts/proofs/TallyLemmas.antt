@@ -7,7 +7,7 @@ use Rattle.bq_disc.specs.OneProcessor.{Running, present_at, reading, charge, run
 use Rattle.bq_disc.proofs.QueueLemmas.{without-absent}
 use Rattle.bq_disc.proofs.SetLemmas.{find_task-id}
 
--- what a task counts
+-- what one task counts in a tally
 abbrev pub worth : (ℕ → ℕ → ℕ) → Task → ℕ
 worth g t = g t.id t.mask
 
@@ -100,13 +100,13 @@ tally-exchanged g j p old (Some new) e h =
     let was : tally g (present_at p) ≡ worth g old + tally g p.queue = rw e refl in
     omega (arith, placed, was, tally-without g j p.queue new h)
 
--- the next task
+-- a switch to the next task leaves each tally
 pub tally-switched : (g : ℕ → ℕ → ℕ) (d : Discipline) (p : Running) (o : Option Task)
     → p.current ≡ o → tally g (present_at (switched d p o)) ≡ tally g (present_at p)
 tally-switched g d p None e = refl
 tally-switched g d p (Some t) e = tally-exchanged g (next_of d t p.queue) p t (find_task (next_of d t p.queue) p.queue) e refl
 
--- however it is decided
+-- a decision leaves each tally, however it is made
 pub tally-decided : (g : ℕ → ℕ → ℕ) (d : Discipline) (p : Running) (o : Option Task) (gives_way : Bool)
     → p.current ≡ o → tally g (present_at (decided d p o gives_way)) ≡ tally g (present_at p)
 tally-decided g d p None b e = tally-start g d p e

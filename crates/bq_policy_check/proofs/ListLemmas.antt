@@ -11,7 +11,7 @@ use Rattle.bq_words.specs.Words.{parts}
 abbrev pub ReadsOn : {A : Type 0} → (List ℕ → A → Type 0) → List (List ℕ) → ℕ → List A → Type 0
 ReadsOn {A} Is words i so_far = (more : List A) → AllZip Is (drop i words) more → AllZip Is words (so_far ++ more)
 
--- one more is read
+-- the words that are read go on by one more word
 pub read_more : {A : Type 0} (Is : List ℕ → A → Type 0) (words : List (List ℕ)) (i : ℕ) (d : List ℕ)
     (so_far next : List A) (one : A)
     → i < length words → Is (get_or words i d) one → next ≡ so_far ++ one ∷ [] → ReadsOn Is words i so_far

@@ -127,7 +127,7 @@ states_mark old new key.Format before line word t is s =
           (subst (IsStated (λ word version. version_of word ≡ Some version) (values key.Format before)) t.1 s.format) t.2);
     }
 
--- no lines say nothing
+-- a file of no lines states a head that names nothing
 pub states_nothing : (h : Head) → h.hook ≡ None → h.maps ≡ None → h.format ≡ None → StatesHead [] h
 states_nothing h a b c = record {
   known = refl;

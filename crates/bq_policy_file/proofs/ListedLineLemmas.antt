@@ -56,7 +56,7 @@ bodies_parsed insns h k =
     ap (λ t. map parsed_line (lines t)) (listing_ended insns)
     ∙ ap (map parsed_line) (lines_ended (map line_body insns) (bodies_clean insns h k))
 
--- a listing without comments
+-- the lines of a listing without comments are lines of its instructions
 pub plain_lines : (insns : List Insn) → list_all is_insn insns ≡ true → AllFit insns → AreLines insns (map line_body insns)
 plain_lines insns h k = record {
   clean = bodies_clean insns h k;

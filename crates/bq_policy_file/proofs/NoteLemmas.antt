@@ -184,7 +184,7 @@ notes_parsed slot (i ∷ insns) h k =
     noted_parses (line_body i) note (32 - length (line_body i)) (body_inner i parts.0 k.0) n
     ∷ notes_parsed (slot + slots_of i) insns parts.1 k.1 n
 
--- a listing with comments
+-- the lines of a listing with comments are lines of its instructions
 pub noted_are : (insns : List Insn) → slot_count insns ≤ 4096 → list_all is_insn insns ≡ true → AllFit insns
     → AreLines insns (noted_lines 0 insns)
 noted_are insns few h k = record {

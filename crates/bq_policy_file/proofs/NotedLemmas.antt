@@ -43,7 +43,7 @@ fine_at [] k d l h fit = absurd (omega arith)
 fine_at (i ∷ insns) zero d l h fit = ((and_parts (is_insn i) (list_all is_insn insns) h).0, fit.0)
 fine_at (i ∷ insns) (suc k) d l h fit = fine_at insns k d (omega arith) (and_parts (is_insn i) (list_all is_insn insns) h).1 fit.1
 
--- its line is ASCII
+-- the line of an instruction is ASCII
 pub body_ascii : (i : Insn) → (is_insn i ≡ true) × Fits i → list_all is_ascii (line_body i) ≡ true
 body_ascii i h =
     list_all-weaker is_inner is_ascii

@@ -12,7 +12,7 @@ parts-first mark text len h more =
     ap (parts mark) (sym (take-append-drop len text) ∙ ap (λ r. take len text ++ r) (drop_more text len 0 more))
     ∙ slice_split_at _ (take len text) (get_or text len 0) (drop (len + 1) text) h.others (h.ends more)
 
--- there is no mark
+-- a text without the mark has one part
 pub parts-only : (mark : ℕ) (text : List ℕ) (len : ℕ) → IsPartLen mark text len → len ≡ length text → parts mark text ≡ text ∷ []
 parts-only mark text len h end =
     let whole : take len text ≡ text = take_all len text (omega (arith, end)) in

@@ -117,7 +117,7 @@ place_match limit f many few =
     (λ k. (λ h. omega (arith, h.1), λ l. (omega (arith, l, few), omega (arith, l)))) (load_holds limit f)
     then tt
 
--- the rows of preempt
+-- the rows of the table of `preempt` match its context
 pub preempt_match : (f : PreemptFacts) → AllMatch (preempt_bytes f) 56 (fields_of Preempt) (preempt_meanings f)
 unfolding preempt_bytes
 preempt_match f =
@@ -136,7 +136,7 @@ preempt_match f =
     then once_matches c end _ _ _ _ (omega arith) (ap (take 4) read.3)
     then tt
 
--- the rows of pull
+-- the rows of the table of `pull` match its context
 pub pull_match : (f : PullFacts) → AllMatch (pull_bytes f) 160 (fields_of Pull) (pull_meanings f)
 unfolding pull_bytes pull_header
 pull_match f =

@@ -35,7 +35,7 @@ by_test : (b : Bool) → cond b Permitted NotPermitted ≢ NotShown
 by_test true h = cc
 by_test false h = cc
 
--- on a place
+-- what is said of an answer to `place` begins with the word for it
 pub judged_place : (hook : Hook) (context : List ℕ) (r0 : ℕ) (word : Permission) (text : List ℕ)
     → hook ≡ Place → ((v : Version) → length context ≡ context_length_of hook v → word ≡ permission_of hook context r0)
     → (PLACE_SHOWN ≤ length context → word ≢ NotShown → BeginsWithWord word text)
@@ -48,7 +48,7 @@ judged_place hook context r0 word text at is reported v h =
     subst (λ (w : Permission). BeginsWithWord w text) e
     (reported long (subst (λ (w : Permission). w ≢ NotShown) (sym placed) (by_test (place_permits context r0))))
 
--- on whether the current task gives way
+-- what is said of an answer to `preempt` begins with the word for it
 pub judged_preempt : (hook : Hook) (context : List ℕ) (r0 : ℕ) (word : Permission) (text shown : List ℕ)
     → hook ≡ Preempt → ((v : Version) → length context ≡ context_length_of hook v → word ≡ permission_of hook context r0)
     → (word ≢ NotShown → BeginsWithWord word shown) → text ≡ shown → (v : Version) → length context ≡ context_length_of hook v
@@ -60,7 +60,7 @@ judged_preempt hook context r0 word text shown at is reported same v h =
     (subst (λ (w : Permission). BeginsWithWord w shown) e
     (reported (subst (λ (w : Permission). w ≢ NotShown) (sym asked) (by_test (nat_lt r0 2)))))
 
--- on a task to take
+-- what is said of an answer to `pull` begins with the word for it
 pub judged_pull : (hook : Hook) (context : List ℕ) (r0 : ℕ) (word : Permission) (text : List ℕ)
     → ((v : Version) → length context ≡ context_length_of hook v → word ≡ permission_of hook context r0) → BeginsWithWord word text
     → (v : Version) → length context ≡ context_length_of hook v

@@ -51,7 +51,7 @@ notes_as : (e : Extent) (runs others : List Slice) (columns rest : List Column) 
 notes_as e runs others columns rest l same alike known =
     subst (λ rs. Notes e rs rest l) same (subst (λ cs. Notes e runs cs l) alike known)
 
--- nothing more is known
+-- with no more runs and columns a legend stays as it is
 pub notes_none : (e : Extent) (l : Legend) → NotesMore e [] [] l l
 notes_none e l ran before known = notes_as e ran (ran ++ []) before (before ++ []) l (sym (append-nil ran)) (sym (append-nil before)) known
 

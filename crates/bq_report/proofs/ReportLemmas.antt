@@ -68,11 +68,11 @@ adds_part Holds IsLike old new own holds is e = (own, part_there Holds IsLike ow
 pub adds_none : (Holds : Type 0) (IsLike : List ℕ → Type 0) (text : List ℕ) → ¬ Holds → GrowsByPart (IsPartIf ℕ Holds IsLike) text text
 adds_none Holds IsLike text none = ([], part_missing Holds IsLike none, sym (append-nil text))
 
--- no line yet
+-- a text that stays as it is grew by no lines
 pub lines_none : (Is : ℕ → List ℕ → Type 0) (text : List ℕ) → GrowsByPart (AreParts Is 0) text text
 lines_none Is text = ([], AreParts-none Is, sym (append-nil text))
 
--- one more line
+-- a text that grew by some lines, and by one more, grew by all of them
 pub lines_more : (Is : ℕ → List ℕ → Type 0) (number : ℕ) (old now next : List ℕ)
     → GrowsByPart (AreParts Is number) old now → GrowsByPart (Is number) now next
     → GrowsByPart (AreParts Is (number + 1)) old next
@@ -98,7 +98,7 @@ table head Is number count old now next is under lines = (
 
 -- ---- the table of the policies
 
--- whether there are lines
+-- whether a text has any byte
 abbrev pub is_there : List ℕ → Bool
 is_there [] = false
 is_there (byte ∷ bytes) = true
@@ -166,7 +166,7 @@ hooks_more w s number f has old now headed next below is asked head lines =
       sym (there_behind below.0 own some),
     )
 
--- a processor without lines
+-- a processor without lines leaves the lines of the hooks as they were
 pub hooks_same : (w : Window) (s : Figures) (number : ℕ) (f : ProcessorFigures) (has : Bool) (old now : List ℕ)
     → HooksBelow w s number has old now → f ≡ processor_in_figures s number → ¬ (ShowsProcessor w number × WasAsked f)
     → HooksBelow w s (number + 1) has old now

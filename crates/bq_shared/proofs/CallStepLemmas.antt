@@ -35,9 +35,9 @@ use Rattle.bq_shared.proofs.WantLemmas.{admits_named, retires_named, blocks_name
 use Rattle.bq_shared.proofs.LoadLemmas.{loads_set, loads_same, loads_moved, load_kept, loads_box}
 use Rattle.bq_shared.proofs.ShapeLemmas.{MayCommitHere, moves_none, moves_lobby, moves_cpu, moves_cpu_lobby, moves_cpu_inbox}
 
--- each task counts once
-abbrev pub one_for_each : ℕ → ℕ → ℕ
-one_for_each i mask = 1
+-- the tally in which each task counts once
+abbrev pub ones : ℕ → ℕ → ℕ
+ones i mask = 1
 
 -- the length of a list of tasks is a tally in which each counts once
 pub length_is : (xs : List Task) → length xs ≡ tally one_for_each xs
@@ -54,7 +54,7 @@ decided_size s p settled =
       tally-decided one_for_each s.discipline p.running p.running.current (settled.choice == 1) refl,
     )
 
--- time changes no size
+-- the passing of time changes the size of no processor
 pub time_size : (d : Discipline) (now : ℕ) (p : Processor) → size_of (after_time d now p) ≡ size_of p
 time_size d now p =
     omega (arith, length_is (present_at (charge d p.running now)), length_is (present_at p.running), tally-charge one_for_each d p.running now)
@@ -110,7 +110,7 @@ module _ (d : Discipline) (n : ℕ) where
         admits_named id (admitted n id nice mask slice) l r m share,
       ))
 
-  -- so may a retirement
+  -- a retirement may be committed
   pub retire_moves : (id : ℕ) (l m : List LobbyEntry) (k : JournalState) (r : Result Reply Refusal)
       → id < 1024 → argument_refusal n (Retire id) ≡ None → Retires id l r m
       → MayCommitHere d n k (lobby_part l ∷ []) (record { event = Retire id; reply = r; calls = [] }) k (lobby_part m ∷ [])
@@ -118,7 +118,7 @@ module _ (d : Discipline) (n : ℕ) where
       moves_lobby d n l m k (record { event = Retire id; reply = r; calls = [] })
       (λ w s is. (retires_step d w id r m bound (rw is share), fits, retires_named id l r m share))
 
-  -- so may a tick
+  -- a tick may be committed
   pub tick_moves : (c now : ℕ) (p q : Processor) (calls : List CounterCall) (k : JournalState) (r : Reply)
       → Ticks (by_programs d) c now p calls r q
       → MayCommitHere d n k (cpu_part c p ∷ []) (record { event = Tick c now; reply = Ok r; calls = calls }) k (cpu_part c q ∷ [])
@@ -269,7 +269,7 @@ module _ (d : Discipline) (n : ℕ) where
   install_size h drawn p new (Ok r) q i = ap size_of i.2
   install_size h drawn p new (Err e) q i = ap size_of i.1
 
-  -- so may an installation
+  -- an installation may be committed
   pub install_moves : (c g : ℕ) (h : Hook) (o : Option Accepted) (p q : Processor) (k : JournalState)
       (r : Result Reply Refusal)
       → argument_refusal n (Install c h g o) ≡ None

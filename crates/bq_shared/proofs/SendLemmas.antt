@@ -25,22 +25,22 @@ pub numbered_send : (Q R : RattleType) (g : Queue.Ghosts Q.Denot R.Denot) (h : D
     → IsSend Q → IsSend (Numbered.the_row Q R g h)
 numbered_send Q R g h s = declared_send (Numbered.the_type Q R g h) (search sendable, (cpu_send Q R g h s, (scratch.the_send, tt)))
 
--- an inbox with its number may
+-- an inbox with its number may cross threads
 pub inbox_send : IsSend NumberedInbox.the_row
 inbox_send = search (crosses, knot.crosses, sendable) depth 60 fits 20000
 
--- the lobby may
+-- the lobby may cross threads
 pub lobby_send : IsSend OneLobby.the_row
 lobby_send = search (crosses, knot.crosses, sendable) depth 60 fits 20000
 
--- the calls of counters may
+-- the calls of counters may cross threads
 calls_send : IsSend Calls.the_row
 calls_send = search (crosses, list.the_send, call.the_send, sendable) depth 40
 
--- a record may
+-- a record may cross threads
 pub record_send : IsSend Record.the_row
 record_send = declared_send Record.the_type (event.the_send, (answer.the_send, (calls_send, tt)))
 
--- what the journal keeps may
+-- what the journal keeps may cross threads
 pub kept_send : IsSend JournalState.the_row
 kept_send = search (loads.the_send, sendable) depth 20

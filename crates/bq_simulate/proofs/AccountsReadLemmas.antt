@@ -98,7 +98,7 @@ reads_task f same processor task size run a b h = record {
   sizes = h.sizes;
 }
 
--- nothing has changed
+-- accounts that have not changed read as they are
 pub reads_same : (processor : ℕ) (a : Accounts) (l : ProcessorState)
     → slice_get a.by_processor processor ≡ Some l → Reads processor l.run l.size a a
 reads_same processor a l at = record {

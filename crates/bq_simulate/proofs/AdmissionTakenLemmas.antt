@@ -115,7 +115,7 @@ admit_kept d w v a c kind calls r h few asleep low step =
       processors = record { many = m.many; runs = m.runs; sizes = m.sizes };
     }) homes
 
--- an admission is taken
+-- a world takes each admission that may come
 pub admissions_are_taken : AdmissionsAreTaken
 admissions_are_taken d w a number home kind h may =
     let n : ℕ = length a.by_task in

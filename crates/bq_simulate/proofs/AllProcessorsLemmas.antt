@@ -26,7 +26,7 @@ each_more f count =
     let all = all_processors count in
     ap (map f) (numbers_more 0 count) ∙ ap (λ (k : ℕ). map f (all ++ k ∷ [])) at ∙ map-append f all (count ∷ [])
 
--- what the processor says
+-- a processor is busy just where it says that a task runs
 pub busy_at : (processor : ℕ) (a : Accounts) (processor_state : ProcessorState)
     → slice_get a.by_processor processor ≡ Some processor_state
     → is_busy a processor ≡ is_some processor_state.run

@@ -70,7 +70,7 @@ ticks_busy w now s processor h ticks =
       | inr (task, runs) ↦ ap (λ (o : Option ℕ). is_some o) runs
     ]
 
--- its clock beats
+-- the beat of a clock that ticks now is no stray one
 pub beats : (w : Workload) (now : ℕ) (s : Simulation) (processor : ℕ)
     → SimulationGoesWell w now s → TicksAt (accounts_of s.roster) processor now
     → IsStrayBeat processor now s.roster.periods.tick (accounts_of s.roster)

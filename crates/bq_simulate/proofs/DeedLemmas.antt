@@ -200,7 +200,7 @@ begun-same s t same = omega (arith, ap (λ v. length v.items) same)
 begun-stay : (s t : Simulation) → SimulationStays s t → KeepsAsManyFirsts s t
 begun-stay s t stays = begun-same s t stays.firsts
 
--- nothing was done
+-- a simulation goes on by no deed where only plans and counts change
 pub GoesOnBy-same : {S : Type 0} (takes : S → ℕ → TraceEvent → S → Type 0) (A : List Deed → Type 0)
     → A [] → (x : S) (s t : Simulation) → OnlyPlansOrCounts s t → GoesOnForAnyKinds takes A x s x t
 GoesOnBy-same takes A none x s t same kinds drawn had firsts = record {
@@ -224,7 +224,7 @@ GoesOnBy-same takes A none x s t same kinds drawn had firsts = record {
 abbrev AreNone : List Deed → Type 0
 AreNone deeds = deeds ≡ []
 
--- nothing was done after
+-- a simulation goes on by the same deeds if only plans and counts change after them
 pub GoesOnBy-then : {S : Type 0} (takes : S → ℕ → TraceEvent → S → Type 0) (kinds : List TaskKind) (A : List Deed → Type 0)
     (x y : S) (s t u : Simulation)
     → GoesOnBy takes kinds A x s y t → OnlyPlansOrCounts t u → GoesOnBy takes kinds A x s y u
@@ -407,7 +407,7 @@ GoesOnForAnyKinds-looks takes A B x y s t u processor now source looks from stay
     (λ kinds drawn. (looks, from, (refl, driver, ap (λ (a : Accounts). record { accounts = a; drawn = drawn }) accounts)))
     first goes_on
 
--- an event happens
+-- a simulation goes on by an event that happens
 pub GoesOnBy-event : {S : Type 0} (takes : S → ℕ → TraceEvent → S → Type 0) (A : List Deed → Type 0) (x y : S)
     (s t : Simulation) (event : Event) (reply : Reply)
     → A (Happens event reply ∷ []) → MayCome event (accounts_of s.roster) → SimulationStays s t → EventIsDriven takes x s.driver event reply y t.driver

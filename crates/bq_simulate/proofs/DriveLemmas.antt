@@ -25,7 +25,7 @@ Drives-append d m e (x ∷ xs) ys reported more (reply, mid, first, rest, does, 
   ap (λ t. t ++ more) whole ∙ append_assoc first rest more,
 )
 
--- one event
+-- one event that is driven is a run of driven events
 pub EventsAreDriven-one : {S : Type 0} (takes : S → ℕ → TraceEvent → S → Type 0) (old new : S) (d e : Driver)
     (x : Event) (reply : Reply)
     → Gets takes old new (λ reported. DrivesEvent d x reply reported e) → EventsAreDriven takes old d (x ∷ []) new e

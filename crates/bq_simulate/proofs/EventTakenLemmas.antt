@@ -75,7 +75,7 @@ tick_kept d periods w v a processor now calls r h low step =
           (size_there w a processor l.0 h.mirrors.processors l.1 ∙ sym size);
     }) (homes_switched (count_in w) processor (runs_now r) now periods a low h.homes)
 
--- a tick is taken
+-- a world takes each tick that comes
 pub ticks_are_taken : TicksAreTaken
 ticks_are_taken d periods w a processor now h low = record {
   taken = ap (λ o. either_refusal o None) (there (count_in w) processor low);
@@ -161,7 +161,7 @@ block_kept d periods w v a processor task now calls r h low runs step =
       processors = record { many = runs_as.many; runs = runs_as.runs; sizes = runs_as.sizes };
     }) (homes_switched (count_in w) processor run now periods (shrunk processor a) low h.homes)
 
--- a block is taken
+-- a world takes each block that comes
 pub blocks_are_taken : BlocksAreTaken
 blocks_are_taken d periods w a processor task now h low runs = record {
   taken =
@@ -339,7 +339,7 @@ pull_kept d periods w v a processor from now calls r h low low' apart step =
     (option_map_or (λ _. accounts_passed from processor a) (task_pulled r) a) low
     (homes_passed (count_in w) processor from (task_pulled r) a h.homes))
 
--- a pull is taken
+-- a world takes each pull that comes
 pub pulls_are_taken : PullsAreTaken
 pulls_are_taken d periods w a processor from now h low low' apart = record {
   taken = rw (lt-leb (count_in w) processor low, lt-leb (count_in w) from low', ne_eqb processor from apart) refl;
@@ -348,7 +348,7 @@ pulls_are_taken d periods w a processor from now h low low' apart = record {
 
 -- Draws and installs
 
--- a draw is taken
+-- a world takes each draw that comes
 pub draws_are_taken : DrawsAreTaken
 draws_are_taken d periods w a h =
     let m = h.mirrors.processors in
@@ -398,7 +398,7 @@ install_kept d w v a processor generation hook policy calls r h low step =
           (size_there w a processor l.0 m l.1 ∙ sym (ap size_of is));
     }) h.homes
 
--- an install is taken
+-- a world takes each install that comes
 pub installs_are_taken : InstallsAreTaken
 installs_are_taken d periods w a processor generation policy h low newer drawn = record {
   taken =

@@ -90,7 +90,7 @@ given-well w last now due s o is next h =
     let comes = comes-well w last now due s h first in
     (comes.0, comes.1, comes.2, subst (λ (p : Periods). IsNextDue p.end (accounts_of s.roster) due now) h.periods first)
 
--- deeds that keep all
+-- deeds that keep all that holds while a simulation goes well
 abbrev pub KeepAll : Workload → ℕ → ℕ → (List Deed → Type 0) → Type 0
 KeepAll w seed now Are =
     (d e : Driver) (b c : Book) (deeds : List Deed) (reported : Reported) → Are deeds →

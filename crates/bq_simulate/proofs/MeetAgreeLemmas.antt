@@ -196,7 +196,7 @@ pub step_of : (d : Driver) (event : Event) (reply : Reply) (reported : Reported)
     → WorldStep (by_programs (discipline_of d.machine.discipline)) (world_of d) event does.happens.moves.step.calls (Ok reply) (world_of e)
 step_of d event reply reported e does = does.happens.moves.step.step
 
--- a tick
+-- driver and book agree after a tick
 pub tick_agrees : (periods : Periods) (d e : Driver) (b : Book) (processor now : ℕ) (reply : Reply) (reported : Reported)
     → DrivesEvent d (Tick processor now) reply reported e → BookAgrees d b
     → BookAgrees e (after_answer periods (Tick processor now) reply b)
@@ -375,7 +375,7 @@ event_met event keeps kinds seed periods d e b c deeds reported (reply, more, is
     let whole : deeds ≡ Happens event reply ∷ [] = is ∙ ap (λ l. Happens event reply ∷ l) none in
     one_event event keeps kinds seed periods d e b c reply reported (subst (λ l. DeedsLead kinds seed periods d b l reported e c) whole leads) h
 
--- nothing happens
+-- driver and book still agree where nothing happens
 pub nothing_met : (kinds : List TaskKind) (seed : ℕ) (periods : Periods) (d e : Driver) (b c : Book)
     (deeds : List Deed) (reported : Reported)
     → deeds ≡ [] → DeedsLead kinds seed periods d b deeds reported e c → BookAgrees d b → BookAgrees e c

@@ -169,7 +169,7 @@ on_time_later end now time a later first h =
           };
     }
 
--- nothing is missed
+-- when the next event comes nothing that is due before it is missed
 pub nothing_is_missed : NothingIsMissed
 nothing_is_missed end now time a due early h next =
     let c : Comes now time end = comes_later end now time a due early h next.comes in

@@ -67,7 +67,7 @@ opens-well takes Are x y w from to s t keep counted goes_on h =
       agreed = g.agrees h.agreed;
     }
 
--- no deed
+-- an opening stays one, with as many tasks, where no deed is done
 pub nothing-opens : (w : Workload) (seed tasks : ℕ) → Opening w seed tasks tasks (AreJustEvents [])
 nothing-opens w seed tasks d e b c deeds reported none leads h =
     none_kept (IsOpening (processors_in w.machine.size) tasks) w.tasks.items seed (periods_of w.machine) d e b c deeds
@@ -77,7 +77,7 @@ nothing-opens w seed tasks d e b c deeds reported none leads h =
 abbrev pub IsDrawn : ℕ → List Deed → Type 0
 IsDrawn generation deeds = deeds ≡ Happens Draw (Drawn generation) ∷ []
 
--- a draw
+-- an opening stays one, with as many tasks, after a draw
 pub draw-opens : (w : Workload) (seed tasks generation : ℕ) → Opening w seed tasks tasks (IsDrawn generation)
 draw-opens w seed tasks generation d e b c deeds reported is leads h =
     let n = processors_in w.machine.size in
@@ -85,7 +85,7 @@ draw-opens w seed tasks generation d e b c deeds reported is leads h =
     just_kept (IsOpening n tasks) (λ processor. Draw) (λ processor. draw_opens n tasks) w.tasks.items seed periods d e b c
     (0 ∷ []) deeds reported (Drawn generation, [], is, refl) leads h
 
--- the installs of a policy
+-- an opening stays one, with as many tasks, after the installs of a policy
 pub installs-open : (w : Workload) (seed tasks count generation : ℕ) (policy : Accepted)
     → Opening w seed tasks tasks (AreJustEvents (installs_of count generation policy))
 installs-open w seed tasks count generation policy d e b c deeds reported just leads h =
@@ -130,7 +130,7 @@ begun-well takes w tasks x s t goes_on counts h =
     opens-well takes (AreJustEvents []) x x w tasks tasks s t (nothing-opens w s.seed tasks) (ap (λ k. k.tasks) counts ∙ h.counted)
     (GoesOnBy-unreported takes w.tasks.items (AreJustEvents []) x s t goes_on) h
 
--- some tasks of a kind
+-- an opening stays one, with more tasks, after the admission of some tasks of a kind
 pub tasks-open : (w : Workload) (seed number : ℕ) (kind : TaskKind) (task count : ℕ)
     → Opening w seed task (task + count) (AreAdmitted (processors_in w.machine.size) number kind task count)
 tasks-open w seed number kind task count d e b c deeds reported are leads h =

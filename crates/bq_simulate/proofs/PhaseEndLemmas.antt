@@ -174,7 +174,7 @@ asked_sound w sound task c (Some (Sleep given)) asked stands next asks =
 asked_sound w sound task c (Some Wait) asked stands next asks = absurd (none-some asked asks)
 asked_sound w sound task c (Some (Wake kind)) asked stands next asks = absurd (none-some asked asks)
 
--- its length is drawn
+-- where a workload has no flaw the length that an action asks for is one, and its task has a stream to draw it
 pub no_stray_length : (w : Workload) → first_flaw w ≡ None
     → (processor task : ℕ) (c : TaskProgress) (s : Simulation) (action : Option Action) (asked : Length)
     → HasEnded w processor task c s → action ≡ next_action w.tasks.items c → asked_by action ≡ Some asked

@@ -98,13 +98,13 @@ part kinds seed periods d e b c (Looks at now source ∷ xs) ys reported (looks,
     let s = part kinds seed periods d e (after_look periods at now b) c xs ys reported leads in
     record { mid = s.mid; book = s.book; first = s.first; more = s.more; one = (looks, from, s.one); two = s.two }
 
--- what an event keeps
+-- a property of a driver and a book holds after an event if it held before
 abbrev pub Keeps : (Driver → Book → Type 0) → Event → Type 0
 Keeps P event =
     (periods : Periods) (d e : Driver) (b : Book) (reply : Reply) (reported : Reported) →
     DrivesEvent d event reply reported e → P d b → P e (after_answer periods event reply b)
 
--- no deed keeps all
+-- where no deed is done each property of a driver and a book still holds
 pub none_kept : (P : Driver → Book → Type 0) (kinds : List TaskKind) (seed : ℕ) (periods : Periods) (d e : Driver)
     (b c : Book) (deeds : List Deed) (reported : Reported)
     → deeds ≡ [] → DeedsLead kinds seed periods d b deeds reported e c → P d b → P e c
@@ -159,7 +159,7 @@ install_opens processors tasks generation policy processor periods d e b reply r
       tasks_there = h.tasks_there;
     }
 
--- policies are installed
+-- an opening stays one after the installation of policies
 pub installed_opens : (kinds : List TaskKind) (seed : ℕ) (periods : Periods) (d e : Driver) (b c : Book)
     (processors tasks : ℕ) (policies : List Accepted) (deeds : List Deed) (reported : Reported)
     → AreInstalled processors policies deeds → DeedsLead kinds seed periods d b deeds reported e c
@@ -251,7 +251,7 @@ admitted_open kinds seed periods d e b c processors number kind task (suc count)
     subst (λ n. IsOpening processors n e c) all
     (admitted_open kinds seed periods s.mid e s.book c processors number kind (task + 1) count more s.more rest s.two one)
 
--- all tasks
+-- an opening stays one, with all tasks, after the admission of all kinds
 pub all_admitted_open : (all : List TaskKind) (seed : ℕ) (periods : Periods) (d e : Driver) (b c : Book)
     (processors number task : ℕ) (kinds : List TaskKind) (deeds : List Deed) (reported : Reported)
     → AreAllAdmitted processors number task kinds deeds → DeedsLead all seed periods d b deeds reported e c

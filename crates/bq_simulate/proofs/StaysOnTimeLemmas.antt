@@ -340,7 +340,7 @@ some_not_none : (o : Option ℕ) → is_some o ≡ true → o ≡ None → ⊥
 some_not_none None h none = cc
 some_not_none (Some x) h none = cc
 
--- a clock beats
+-- accounts stay on time as the clock of a busy processor beats
 pub beaten_kept : (now processor tick : ℕ) (a : Accounts) → 1 ≤ tick → is_busy a processor ≡ true → IsOnTime now a
     → IsOnTime now (beaten processor now tick a)
 beaten_kept now processor tick a some busy h =

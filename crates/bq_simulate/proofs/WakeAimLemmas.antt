@@ -44,7 +44,7 @@ aim_low : (w : Workload) (now kind woken first : ℕ) (s : Simulation)
     → first + woken < tasks_in w.tasks.items
 aim_low w now kind woken first s h low at = omega (arith, h.firsts kind first at, kind_within w.tasks.items kind, low)
 
--- 16 bits count it
+-- the task that a wake wakes next has a number below 1,024
 pub aim_counted : (w : Workload) (now kind woken first : ℕ) (s : Simulation)
     → SimulationGoesWell w now s → woken < kind_count w.tasks.items kind → slice_get s.firsts.items kind ≡ Some first
     → first + woken < 1024

@@ -257,7 +257,7 @@ ended d periods w a from now h = record {
   leaves = λ calls r v step to at. taken_in d periods v a to now (end_kept d w v a from to now calls r h at step);
 }
 
--- a wake is taken
+-- a world takes each wake that comes
 pub wakes_are_taken : WakesAreTaken
 wakes_are_taken d periods w a from task now c h low at sleeps =
     let stands = sleeper_stands w a task c h at in

@@ -9,7 +9,7 @@ pub edits_none : (named : NamedTasks) (name : List ℕ) → edits_below named na
 unfolding edits_below
 edits_none named name = refl
 
--- one task more
+-- the fewest edits go on by one more task
 pub edits_more : (named : NamedTasks) (name : List ℕ) (task : ℕ)
     → edits_below named name (task + 1) ≡ edits_after (edits_below named name task) name (name_of named task)
 unfolding edits_below

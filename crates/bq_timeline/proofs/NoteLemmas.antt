@@ -25,7 +25,7 @@ pub reaches_none : (s : Figures) (from : ℕ) → reaches s from 0 ≡ false
 unfolding reaches
 reaches_none s from = refl
 
--- one processor more
+-- whether some processor reaches a time goes on by one more processor
 pub reaches_more : (s : Figures) (from p : ℕ) → reaches s from (p + 1) ≡ (reaches s from p || nat_le from (processor_in_figures s p).last)
 unfolding reaches
 reaches_more s from p = ap (λ n. reaches s from n) (add-one p)

@@ -68,7 +68,7 @@ with_feeds-one (y ∷ xs) x more =
 pub stands_for_nothing : KeepsLine (Some []) []
 stands_for_nothing = record { one_line = All-nil (λ b. eqb b 10 ≡ false); kept_is = refl }
 
--- one more line ends
+-- a trace that stands so far stands one line further once one more line ends
 pub SoFar-more : {S : Type 0} (takes : S → ℕ → TraceEvent → S → Type 0) (s t u : TracePosition)
     (whole rest tail more : List ℕ) (old mid new : S)
     → (h : SoFar takes s whole t rest old mid) → rest ≡ tail ++ 10 ∷ more → IsOneLine tail

@@ -8,7 +8,7 @@ pub TakesAll-append : {S : Type 0} (takes : S → ℕ → TraceEvent → S → T
 TakesAll-append takes a b c [] ys h k = subst (λ s. TakesAll takes s ys c) h k
 TakesAll-append takes a b c ((n, x) ∷ xs) ys h k = (h.0, h.1, TakesAll-append takes h.0 b c xs ys h.2 k)
 
--- two events are taken
+-- a sink that takes two events, one after the other, gets both
 pub gets_two : {S : Type 0} (takes : S → ℕ → TraceEvent → S → Type 0) (a b c : S) (n : ℕ) (x y : TraceEvent)
     (Holds : Reported → Type 0)
     → takes a n x b → takes b n y c → Holds ((n, x) ∷ (n, y) ∷ []) → Gets takes a c Holds

@@ -65,13 +65,13 @@ move_ignores_left x y = refl
 zero_word : (shapes : List MapShape) (k : AbstractValue) (b : ℕ) → k.kind ≡ Number → k.offset.hi ≡ 0 → Describes shapes k b → b ≡ 0
 zero_word shapes k b kind none d = let w = number_within shapes k b kind d in omega (arith, w)
 
--- a result that is 0
+-- a word that is equal to a known 0 is the number 0
 pub null_side : (shapes : List MapShape) (k : AbstractValue) (a b : ℕ)
     → k.kind ≡ Number → k.offset.hi ≡ 0 → Describes shapes k b → a ≡ b
     → Describes shapes (record { kind = Number; offset = k.offset }) a
 null_side shapes k a b kind none d same = rw same (describes_number shapes k.offset b (number_within shapes k b kind d))
 
--- a result that isn't
+-- an entry or null that is not equal to 0 is an entry
 pub entry_side : (shapes : List MapShape) (m : ℕ) (left right : AbstractValue) (a b : ℕ)
     → left.kind ≡ EntryOrNull m → left.offset.hi ≡ 0 → right.kind ≡ Number → right.offset.hi ≡ 0 → Describes shapes left a
     → Describes shapes right b → a ≢ b

@@ -56,7 +56,7 @@ Path-push slots a b c p edge = record {
   ends = end_of-push a p.rest c;
 }
 
--- a path goes up
+-- where each edge goes forward a path has fewer edges than there are slots from its first one on
 pub path_rises : (slots : List (Option Insn)) → IsForward slots → (from : ℕ) (rest : List ℕ) → IsPath slots from rest
     → IsStart slots (path_end from rest)
     → from + length rest < length slots

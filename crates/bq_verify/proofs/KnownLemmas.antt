@@ -257,11 +257,11 @@ pub record AreKnownBefore (p : Subject) (slot : ℕ) (known : List (Option Abstr
   pub long : length known ≡ slot
   pub knows : (k : ℕ) → k < slot → KnowsRuns p k (slice_index_or known k None)
 
--- of no slot
+-- an empty list has what is known before slot 0
 pub none_before : (p : Subject) → AreKnownBefore p 0 []
 none_before p = record { long = refl; knows = λ k below. absurd (omega (arith, below)) }
 
--- of one slot more
+-- what is known before a slot, and what is known there, are what is known before the next
 pub one_more_known : (p : Subject) (slot : ℕ) (known more : List (Option AbstractState)) (here : Option AbstractState)
     → AreKnownBefore p slot known → more ≡ known ++ here ∷ [] → KnowsRuns p slot here → AreKnownBefore p (slot + 1) more
 one_more_known p slot known more here before is knows = record {

@@ -29,7 +29,7 @@ one_long (Branch w c d (Reg s) off) = refl
 one_long (Call h) = refl
 one_long Exit = refl
 
--- a whole program
+-- the spread of a program is as long as its instructions have slots
 pub spread_long : (insns : List Insn) → length (spread insns) ≡ slot_count insns
 spread_long [] = refl
 spread_long (i ∷ rest) =

@@ -83,7 +83,7 @@ pub spread_begins : (insns : List Insn) → Begins (spread insns)
 spread_begins [] = record { whole = λ k insn here lt. absurd (omega arith); first = λ lt. absurd (omega arith) }
 spread_begins (first ∷ rest) = begins_some first (spread rest) (spread_begins rest) (one_or_two first)
 
--- one more instruction
+-- the spread of the first instructions and that of one more are the spread of all of them
 pub spread_more : (insns : List Insn) (i : ℕ) (past : Insn) (old new : List (Option Insn))
     → i < length insns → old ≡ spread (take i insns)
     → new ≡ old ++ (Some (get_or insns i past) ∷ replicate (slots_of (get_or insns i past) - 1) None)

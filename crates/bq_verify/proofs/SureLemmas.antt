@@ -483,7 +483,7 @@ pub sure_over : (slots : List (Option Insn)) (pending : List (Option (Box Abstra
     → ((x : Fact) (k : ℕ) → IsFactDue slots x k → HasWaiting x pending k) → IsSure slots pending state false slot
 sure_over slots pending state slot waits x k due = record { waiting = waits x k due; transferred = λ live. absurd (let no : ⊥ = cc in no) }
 
--- at the start
+-- at the start each fact that is due at slot 0 is known
 pub sure_start : (slots : List (Option Insn)) (pending : List (Option (Box AbstractState Global))) (state : AbstractState)
     → IsGraphSound slots → ((k : ℕ) → slice_index_or pending k None ≡ None) → CertaintyHoldsAt (Pointer Context 0) state 1
     → CertaintyHoldsAt (Pointer Stack 512) state 10 → ((j : ℕ) → Has (IsPlainAt j) state)

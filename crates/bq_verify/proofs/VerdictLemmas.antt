@@ -24,7 +24,7 @@ use Rattle.bq_verify.specs.Subjects.{Subject, subject_of_slots}
 use Rattle.bq_verify.proofs.FrameLemmas.{spares_frame}
 use Rattle.bq_verify.proofs.GraphLemmas.{faultless_sound, spread_first}
 
--- no context is long
+-- no hook has a context of 65,536 bytes or more
 pub context_small : (hook : Hook) (version : Version) → context_length_of hook version < 65536
 context_small Place First = omega arith
 context_small Place Second = omega arith

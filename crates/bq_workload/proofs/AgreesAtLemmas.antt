@@ -31,7 +31,7 @@ pub agrees_if_planned : (end time : ℕ) (b : Accounts) (x y : List ℕ) (due : 
 agrees_if_planned end time b x y due p is =
     record { at = λ there. p.at ∙ ap (due_number (due_rank due)) (sym is); there = λ t some. p.there }
 
--- what does not come
+-- a queue agrees with the accounts where what does not come is dropped
 pub agrees_if_dropped : (end : ℕ) (b : Accounts) (x y : List ℕ) (due : Due)
     → IsDropped due x y → comes_at end b due ≡ None → AgreesAt end b y due
 agrees_if_dropped end b x y due d is = record { at = λ there. d.at ∙ ap (due_number (due_rank due)) (sym is); there = λ t some. d.there }

@@ -3,7 +3,7 @@ use Rattle.std.proofs.Common.{◌≡◌, ℕ, zero, suc, ◌+◌, ◌-◌, ◌*�
 use Rattle.std.proofs.Math.Nat.{mul-le-mul_right, pow-suc}
 use Rattle.bq_workload.specs.Draws.{fraction, digit, squared}
 
--- one digit more
+-- a fraction goes on by one more digit
 pub fraction-step : (left known m d r : ℕ) → 0 < left → d ≡ digit m → r ≡ squared m
     → fraction (left - 1) (2 * known + d) r ≡ fraction left known m
 unfolding fraction
@@ -20,7 +20,7 @@ room-step (suc n) known d h small room =
     let whole : (known + 1) * (2 ^ n * 2) ≤ 4294967296 = rw power at room in
     rw sub-one (omega (arith, more, whole))
 
--- no digit is left
+-- with no digit left a fraction is what is known of it
 pub fraction-end : (left known m : ℕ) → left ≤ 0 → fraction left known m ≡ known
 unfolding fraction
 fraction-end zero known m h = refl

@@ -29,11 +29,11 @@ both cs ls = record { by_task = cs; by_processor = ls }
 abbrev ring : ℕ → TaskProgress → Option ℕ
 ring end c = rings_at end c.task_state c.timer
 
--- when a processor ticks
+-- when a processor ticks, if it does before the end
 abbrev pub tick_at : ℕ → ProcessorState → Option ℕ
 tick_at end l = option_and_then (until end) l.tick
 
--- when a processor looks
+-- when a processor looks, if it does before the end
 abbrev pub look_at : ℕ → ProcessorState → Option ℕ
 look_at end l = option_and_then (until end) l.look
 

@@ -11,7 +11,7 @@ pub each-unless : {A : Type 0} (b : Bool) (x : A) (Q : A → Type 0) → (b ≡ 
 each-unless {A} true x Q h = tt
 each-unless {A} false x Q h = h refl
 
--- one of two
+-- what holds for each of two options that are there holds for the one that a test chooses
 pub each-cond : {A : Type 0} (b : Bool) (x y : Option A) (Q : A → Type 0) → IfSome x Q → IfSome y Q → IfSome (cond b x y) Q
 each-cond {A} true x y Q h k = h
 each-cond {A} false x y Q h k = k

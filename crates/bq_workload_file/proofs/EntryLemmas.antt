@@ -17,7 +17,7 @@ only-none [] h = refl
 only-none (e ∷ []) h = absurd (h refl)
 only-none (e ∷ f ∷ es) h = refl
 
--- where there is one
+-- where there is one entry it is the only one
 pub only-one : (es : List Entry) (k : String Global) (v : Value)
     → length es ≡ 1 → slice_get es 0 ≡ Some (k, v)
     → Some (string_bytes k, view v) ≡ only_of (members_view es)
