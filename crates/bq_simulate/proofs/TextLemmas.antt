@@ -1,11 +1,11 @@
 -- Texts that grow by the lines of events.
-use Rattle.std.proofs.Common.{◌≡◌, ℕ, Bool, true, false, cond, List, [], ◌∷◌, ◌++◌, refl, sym, ap, ◌∙◌, append_assoc, append-nil, string_bytes}
+use Rattle.std.proofs.Common.{◌≡◌, ℕ, Bool, true, false, cond, List, [], ◌∷◌, ◌++◌, refl, sym, ap, ◌∙◌, append-nil, string_bytes}
 use Rattle.std.specs.Str.{IsUtf8, is_utf8}
 use Rattle.std.proofs.lemmas.Grind.{flat_map-append}
 use Rattle.std.proofs.lemmas.Str.{IsUtf8-from_is_utf8, is_utf8-from_IsUtf8}
 use Rattle.bq_trace.specs.Feeding.{with_feeds}
-use Rattle.bq_trace.specs.TraceEvents.{TraceEvent, Reported, Skipped}
-use Rattle.bq_simulate.specs.Texts.{ByHook, WritesEvent, WritesAll, image_at, traced_lines, reported_lines}
+use Rattle.bq_trace.specs.TraceEvents.{TraceEvent, Skipped}
+use Rattle.bq_simulate.specs.Texts.{ByHook, WritesEvent, image_at}
 use Rattle.bq_simulate.specs.declared.trace_writer.TraceWriter.{TraceWriter}
 
 -- a line of UTF-8 is written
@@ -31,17 +31,6 @@ pub writes_none : (images : ByHook) (old line : List ℕ) → (IsUtf8 line → �
 writes_none images old line other = record {
   text = sym (append-nil old) ∙ ap (λ b. old ++ with_feeds (cond b (line ∷ []) [])) (sym (no_utf8 line other));
   fits = tt;
-}
-
--- the lines of events one after another
-pub writes_more : (images : ByHook) (old mid new : List ℕ) (n : ℕ) (x : TraceEvent) (more : Reported)
-    → WritesEvent images old x mid → WritesAll images mid more new → WritesAll images old ((n, x) ∷ more) new
-writes_more images old mid new n x more h k = record {
-  text =
-      k.text ∙ ap (λ l. l ++ with_feeds (reported_lines images more)) h.text
-      ∙ append_assoc old (with_feeds (traced_lines images x)) (with_feeds (reported_lines images more))
-      ∙ ap (λ l. old ++ l) (sym (flat_map-append (λ line. line ++ 10 ∷ []) (traced_lines images x) (reported_lines images more)));
-  fits = (h.fits, k.fits);
 }
 
 -- what the text takes of one event
