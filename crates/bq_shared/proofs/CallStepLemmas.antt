@@ -36,8 +36,8 @@ use Rattle.bq_shared.proofs.LoadLemmas.{loads_set, loads_same, loads_moved, load
 use Rattle.bq_shared.proofs.ShapeLemmas.{MayCommitHere, moves_none, moves_lobby, moves_cpu, moves_cpu_lobby, moves_cpu_inbox}
 
 -- the tally in which each task counts once
-abbrev pub ones : ℕ → ℕ → ℕ
-ones i mask = 1
+abbrev pub one_for_each : ℕ → ℕ → ℕ
+one_for_each i mask = 1
 
 -- the length of a list of tasks is a tally in which each counts once
 pub length_is : (xs : List Task) → length xs ≡ tally one_for_each xs
