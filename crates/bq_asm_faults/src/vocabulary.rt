@@ -22,7 +22,7 @@ const FOREIGN: [(&str, &str); 15] = [
     ("return", "exit"),
 ];
 
-/// The word of the language that equals this one, if there is one.
+/// Finds the word of the language that equals this one, if there is one.
 fn known_as(word: &str) -> Option<&'static str> {
     for (known, _) in mnemonics() {
         if *known == word {

@@ -12,6 +12,7 @@ use bq_asm::AssemblyCause;
 use bq_asm_faults::{assembly_fault_text, with_nul_shown};
 use bq_console::{Lines, Name, Quoted};
 use bq_hooks::hook::{NO_HOOK, NO_VERSION};
+use bq_object::is_object;
 use bq_policy_file::{Head, HeadCause, Key, PolicyFault, SHAPES_FORM, read_policy};
 use bq_words::nearest;
 use serde_json::{Map, Value, put};
@@ -248,7 +249,7 @@ fn head_reason(
     Ok(at_line(line, why))
 }
 
-/// The key that the line of that number has misspelled, if it is a near one.
+/// Returns the key that the line of that number has misspelled, if it is a near one.
 fn near_key(
     alloc: Global,
     bytes: &[u8],

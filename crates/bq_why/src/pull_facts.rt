@@ -5,7 +5,7 @@ ghost use Rattle.bq_disc.specs.Movable.{movable_to, ids};
 ghost use Rattle.bq_why.specs.Pulls.{Sees, own_pull_of};
 ghost use Rattle.bq_disc.specs.declared.movable.TheConstants.{MOST_NAMED};
 
-use crate::presence::{present, waiting};
+use crate::presence::{list_present, list_waiting};
 use bq_disc::discipline::WORTH_A_PULL;
 use bq_disc::limits::PROCESSORS;
 use bq_disc::{Entity, Movable, RunQueue};

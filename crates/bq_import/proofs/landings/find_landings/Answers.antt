@@ -5,7 +5,7 @@ use Rattle.bq_verify.specs.Passes.{IsAmongTargets}
 use Rattle.bq_verify.proofs.EdgeLemmas.{Path-push}
 use Rattle.bq_import.specs.Search.{AllComeTo, is_open}
 use Rattle.bq_import.proofs.StackLemmas.{comes_queued}
-use Rattle.bq_import.proofs.landings.landings.Goals as goal
+use Rattle.bq_import.proofs.landings.find_landings.Goals as goal
 
 pub loop-index-preserved : goal.loop-index-preserved
 loop-index-preserved c =
