@@ -7,7 +7,7 @@ use Rattle.bq_disc.specs.Tasks.{Task, find_task, without, inserted, runs_before}
 use Rattle.bq_disc.specs.Queues.{HasDistinctIds}
 use Rattle.bq_disc.proofs.QueueLemmas.{HasDistinctIds-inserted, HasDistinctIds-without, find_task-inserted_other, find_task-without, find_task-without_same}
 
--- of the tasks but one
+-- what holds of each task holds of each of the tasks but one
 pub each-without : (P : Task → Type 0) (i : ℕ) (xs : List Task) → AllByRecursion P xs → AllByRecursion P (without i xs)
 each-without P i [] h = tt
 each-without P i (x ∷ xs) h =
@@ -16,7 +16,7 @@ each-without P i (x ∷ xs) h =
       | false ↦ (h.0, each-without P i xs h.1)
     ]
 
--- of the tasks and one more
+-- what holds of each task and of one more holds of each of them together
 pub each-inserted : (P : Task → Type 0) (t : Task) (xs : List Task) → P t → AllByRecursion P xs → AllByRecursion P (inserted t xs)
 each-inserted P t [] p h = (p, tt)
 each-inserted P t (x ∷ xs) p h =
@@ -30,7 +30,7 @@ found_by_test : (P : Task → Type 0) (b : Bool) (x : Task) (o : Option Task) �
 found_by_test P true x o p h = p
 found_by_test P false x o p h = h
 
--- of the task that is found
+-- what holds of each task holds of the task that is found
 pub each-find_task : (P : Task → Type 0) (i : ℕ) (xs : List Task) → AllByRecursion P xs → IfSome (find_task i xs) P
 each-find_task P i [] h = tt
 each-find_task P i (x ∷ xs) h = found_by_test P (eqb x.id i) x (find_task i xs) h.0 (each-find_task P i xs h.1)

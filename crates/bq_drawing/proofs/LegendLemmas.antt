@@ -30,7 +30,7 @@ chosen : (now : List ℕ) (task : ℕ) (rest : List ℕ) (b : Bool) → (now ++ 
 chosen now task rest true = append_assoc now (task ∷ []) rest
 chosen now task rest false = ap (λ t. t ++ rest) (append-nil now)
 
--- one more task that may be shown
+-- the tasks that are shown go on by one more task, which may be shown
 pub shown_next : (drawn tasks : List ℕ) (i d : ℕ) (whole now next : List ℕ) → i < length tasks
     → next ≡ now ++ tasks_shown (get_or tasks i d ∷ []) drawn → now ++ tasks_shown (drop i tasks) drawn ≡ whole
     → next ++ tasks_shown (drop (i + 1) tasks) drawn ≡ whole

@@ -106,7 +106,7 @@ abbrev pub AddsRunner : Window → NamedTasks → Figures → Past → Processor
 AddsRunner w names s h p now next =
     (part : Option Slice) × IsShownPart w (run_on p) part × (next ≡ now ++ perfetto_run names s h p.running part)
 
--- one more processor's run that goes on
+-- the runs that go on at the first processors, and one more processor's, are those of one processor more
 pub runners_more : (w : Window) (names : NamedTasks) (s : Figures) (h : Past) (number : ℕ) (p : ProcessorFigures) (old now next : List ℕ)
     → GrowsByPart (AreParts (IsPerfettoRunner w names s h) number) old now → p ≡ processor_in_figures s number → AddsRunner w names s h p now next
     → GrowsByPart (AreParts (IsPerfettoRunner w names s h) (number + 1)) old next

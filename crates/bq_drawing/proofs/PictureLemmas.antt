@@ -146,7 +146,7 @@ pub shapes_end : {A : Type 0} (draw : A → List ℕ) (items : List A) (i : ℕ)
     → now ++ flat_map draw (drop i items) ≡ whole → now ≡ whole
 shapes_end {A} draw items i whole now none is = sym (append-nil now) ∙ sym (ap (λ (l : List A). now ++ flat_map draw l) none) ∙ is
 
--- one more line between rows
+-- the lines between rows go on by one more line
 pub line_written : (kind : LinkKind) (s : PictureSetting) (links : List RowLink) (i : ℕ) (d : RowLink)
     (old now next : WrittenRows) (whole : List ℕ)
     → i < length links → now ≡ record old { links = now.links }
@@ -159,7 +159,7 @@ line_written kind s links i d old now next whole there same e is =
     (e ∙ ap (λ (m : BTreeMap ℕ ℕ). string_bytes now.links ++ link_line kind s (get nat_cmp m) (get_or links i d))
     (ap (λ (r : WrittenRows). r.bands) same)) is
 
--- one more of some shapes in lanes
+-- the drawn lanes go on by one more interval
 pub lanes_next : (room : TaskInterval → TaskInterval) (draw : ℕ → TaskInterval → List ℕ) (lanes after : List ℕ) (items : List TaskInterval)
     (i : ℕ) (d place : TaskInterval) (lane : Option ℕ) (whole now next : List ℕ)
     → i < length items → place ≡ room (get_or items i d) → lane ≡ lane_of place lanes → after ≡ lanes_taken lane place.to lanes
@@ -187,7 +187,7 @@ unfolding in_lanes
 lanes_end room draw lanes items i whole now none is =
     sym (append-nil now) ∙ sym (ap (λ (l : List TaskInterval). now ++ in_lanes room draw lanes l) none) ∙ is
 
--- one more character as XML writes it
+-- the text that XML writes goes on by one more character
 pub letters_more : (old now next yielded : List ℕ) (letter : ℕ) → now ≡ old ++ flat_map xml_letter yielded → next ≡ now ++ xml_letter letter
     → next ≡ old ++ flat_map xml_letter (yielded ++ letter ∷ [])
 letters_more old now next yielded letter so_far e =

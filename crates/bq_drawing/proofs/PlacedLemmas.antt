@@ -53,7 +53,7 @@ unfolding lanes_after
 lanes_all room lanes items i whole none is =
     ap (λ (l : List ℕ). length l) (sym (ap (λ (l : List TaskInterval). lanes_after room lanes l) none) ∙ is)
 
--- one more that may find none
+-- the count of those left out goes on by one more interval, which may find no lane
 pub left_more : (room : TaskInterval → TaskInterval) (lanes after : List ℕ) (items : List TaskInterval) (i : ℕ)
     (d place : TaskInterval) (lane : Option ℕ) (whole now next : ℕ)
     → i < length items → place ≡ room (get_or items i d) → lane ≡ lane_of place lanes → after ≡ lanes_taken lane place.to lanes

@@ -28,7 +28,7 @@ describes_registers f s v contains (suc n) =
     describes_register f s (registers_below f.shapes n v.registers) n (slice_index_or v.registers n None)
     (contains.registers n) (describes_registers f s v contains n)
 
--- one word more that is kept
+-- a text that describes the first words that are kept, and one more, describes them all
 pub describes_slot : (f : Setting) (s : State) (before : List ℕ) (j : ℕ) (known : Option AbstractValue)
     → StackIsAsKnown f.shapes known s.stack j → DescribesKept f s before
     → DescribesKept f s (before ++ kept_text f.shapes j known)

@@ -9,7 +9,7 @@ use Rattle.bq_disc.proofs.SetLemmas.{find_task-Contains}
 use Rattle.bq_disc.proofs.SameSumLemmas.{sum_of-without}
 use Rattle.bq_fairness.proofs.SumLemmas.{total_weight-sum, weighted_sum-sum}
 
--- of each id, so of each
+-- if ids are distinct, what holds of the task found by each id holds of each task
 pub All-from_ids : (P : Task → Type 0) (xs : List Task) → HasDistinctIds xs → ((i : ℕ) (t : Task) → find_task i xs ≡ Some t → P t) → All P xs
 All-from_ids P xs d h = λ k x l.
     let t = slice_index_or xs k x in

@@ -33,7 +33,7 @@ EndsIn-more w names s number p old now next h is step =
     subst (λ n. AreLastLines w names s n (h.0 ++ own)) (sym (add-one number)) (h.0, here.0, h.1, here.1, refl) in
     (h.0 ++ own, there, here.2 ∙ ap (λ l. l ++ own) h.2 ∙ append_assoc old h.0 own)
 
--- of as many processors as there are
+-- a report with the last lines of all processors ends in the last lines
 pub EndsIn-end : (w : Window) (names : NamedTasks) (s : Figures) (number end : ℕ) (old now : List ℕ)
     → number ≡ end → EndsIn w names s number old now → EndsIn w names s end old now
 EndsIn-end w names s number end old now is h = subst (λ n. EndsIn w names s n old now) is h

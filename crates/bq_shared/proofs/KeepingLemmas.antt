@@ -133,15 +133,15 @@ module _ (seats : ℕ) (words : List ℕ) (accounts : List Account) (id : ℕ) (
         rw same (rule.sums i lt);
   }
 
-  -- so does one seat that leaves an account without calls and gets its own
+  -- one seat that leaves an account without calls and gets its own keeps the sums
   pub parts : 1 ≤ v.seats → v.calls ≡ [] → AreSums seats words (slice_set accounts id (without_one v) ++ fresh_account 1 ∷ [])
   parts some_seat none = cuts (without_one v) (fresh_account 1) (omega arith) (λ i. omega arith) (λ z. none) (λ z. refl)
 
-  -- so does an account that goes to another seat of the table
+  -- an account that goes to another seat of the table keeps the sums
   pub takes : AreSums seats words (slice_set accounts id seatless_account ++ v ∷ [])
   takes = cuts seatless_account v (omega arith) (λ i. omega arith) (λ z. refl) (rule.blank id v at)
 
-  -- so do two accounts that become one
+  -- two accounts that become one keep the sums
   pub joins : (other : ℕ) (w : Account) → ¬ (other ≡ id)
       → get_elem? (slice_set accounts id (joined_accounts v w)) other ≡ some w
       → AreSums seats words (slice_set (slice_set accounts id (joined_accounts v w)) other seatless_account)

@@ -58,7 +58,7 @@ pub record Reads (processor : ℕ) (run : Option ℕ) (size : ℕ) (a b : Accoun
   pub runs : (other : ℕ) → other ≢ processor → runner_at b.by_processor other ≡ runner_at a.by_processor other
   pub sizes : (other : ℕ) → other ≢ processor → size_at b.by_processor other ≡ size_at a.by_processor other
 
--- one such change and another
+-- accounts that change at a processor, and change there once more, have changed there
 pub reads_join : (processor size more : ℕ) (run next : Option ℕ) (a b c : Accounts)
     → Reads processor run size a b → Reads processor next more b c → Reads processor next more a c
 reads_join processor size more run next a b c h k = record {

@@ -329,7 +329,7 @@ opening_on_time n balance =
       processors = λ k l at. subst (λ (y : ProcessorState). ProcessorIsOnTime 0 [] y) (at-replicate n k x l at).1 rests;
     }
 
--- of the opening machine nothing was done
+-- the machine as it starts is an opening with no tasks
 pub opening_opens : (w : Workload) (d : Driver) (first : Reported)
     → Starts w.machine.discipline w.machine.size first d
     → IsOpening (processors_in w.machine.size) 0 d (opening_book w.machine)

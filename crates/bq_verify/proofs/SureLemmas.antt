@@ -477,7 +477,7 @@ sure_arrived slots pending after state seen live arrived slot waits has sure x k
   transferred = λ on same. has x (subst (λ (n : ℕ). IsSureOf x pending state live slot n) same (sure x k due)) on;
 }
 
--- where no abstract state is transferred on
+-- where no abstract state is transferred on, facts are sure if they are known where they wait
 pub sure_over : (slots : List (Option Insn)) (pending : List (Option (Box AbstractState Global)))
     (state : AbstractState) (slot : ℕ)
     → ((x : Fact) (k : ℕ) → IsFactDue slots x k → HasWaiting x pending k) → IsSure slots pending state false slot
