@@ -11,6 +11,7 @@ use bq_insn::{Insn, SLOTS};
 use bq_states::abstract_state::{AbstractValue, ValueKind};
 use bq_states::places::shape_of;
 use bq_states::registers::known;
+use bq_verify::KnownStates;
 use bq_verify::graph_numbers::find_targets;
 use bq_verify::targets::instruction;
 use std::alloc::{AllocError, Global};
