@@ -322,7 +322,6 @@ waits_at_slot f s pending slot same waits = subst (λ (n : ℕ). IsDescribed f (
 module _ (p : Subject) (slot : ℕ) (pending : List (Option (Box AbstractState Global))) (state : AbstractState)
     (live : Bool) (K : Setting → State → Type 0) (empty : slice_index_or pending slot None ≡ None)
     (arrives : (f : Setting) (s : State) → f.shapes ≡ p.shapes → K f s → IsKnown pending state live slot f s) where
-
   -- the pass goes on past a slot whose instruction leads on
   pub passes_by : (new : List (Option (Box AbstractState Global))) (after : AbstractState) (on : Bool)
       → KeepsWaiting p.shapes pending new → LeadsOnFrom p slot state (IsKnown new after on (slot + 1))
