@@ -27,10 +27,6 @@ take_short zero (x ∷ xs) h = absurd (omega arith)
 take_short (suc n) [] h = refl
 take_short (suc n) (x ∷ xs) h = ap (λ l. x ∷ l) (take_short n xs (omega arith))
 
-append_nothing : (xs : List ℕ) → xs ++ [] ≡ xs
-append_nothing [] = refl
-append_nothing (x ∷ xs) = ap (λ l. x ∷ l) (append_nothing xs)
-
 -- a task that may go is only counted, where eight ids are kept
 pub Adds-full : (processor : ℕ) (t : Task) (a b : Movable) → can_use processor t ≡ true → b.count ≡ a.count + 1
     → b.first.items ≡ a.first.items → length a.first.items ≡ 8
