@@ -1,17 +1,20 @@
 #!/usr/bin/env python3
 """One program, one verdict: the ways by which a program comes to the verifier agree.
 
-    tests/one_verdict.py BQSIM [PROGRAMS [SEED]]      so many drawn programs (400 if left out)
+    tests/one_verdict.py BQSIM [PROGRAMS [SEED]]      this many drawn programs (400 if left out)
 
 BQSIM is the path of the program. Each drawn program goes four ways: `check` of its image in hex, `check` and `run` of its file, and a trace's
 `install`. All must accept it, or refuse it for the same cause at the same slot. Some must be accepted, and some refused for each cause of SEEN.
-The test of `crates/bq_trials/src/one_verdict.rt` draws the same programs, and compares the locked machine with `verify`.
+The test of `crates/bq_trials/src/one_verdict.rt` draws the same programs, and compares the locked machine with `verify`. This script checks that it
+has the same instructions, seed and number.
 """
 import collections
 import os
+import re
 import subprocess
 import sys
 import tempfile
+from pathlib import Path
 
 LINES = """
 mov64 r0, 0 | mov64 r0, 1 | mov64 r2, 8 | mov64 r3, -1 | mov64 r6, r1 | mov64 r2, r10 | mov64 r0, r10 | mov64 r10, 0
@@ -25,6 +28,18 @@ INSTRUCTIONS = [line.strip() for row in LINES.strip().splitlines() for line in r
 HEAD = ";@ hook preempt\n;@ maps 8:1\n"
 SEEN = ["accepted", "V1", "V3", "V4", "V5", "V6", "V7", "V8", "V9", "V10"]  # what is drawn at least once among 400 programs
 SEED = 0x9E37_79B9_7F4A_7C15
+TRIAL = Path(__file__).resolve().parent.parent / "crates/bq_trials/src/one_verdict.rt"
+
+
+def trial_differs():
+    """What the trial of the same name draws otherwise, so that `SEEN` holds of its programs too. A release has no trial."""
+    if not TRIAL.exists():
+        return []
+    text = TRIAL.read_text(encoding="utf-8")
+    lines = re.findall(r'"([^"]*)"', re.search(r"static LINES: \[&str; \d+\] = \[(.*?)\];", text, re.S)[1])
+    number = lambda name: int(re.search(rf"const {name}: \w+ = (\w+);", text)[1].replace("_", ""), 0)
+    drawn = {"instructions": (lines, INSTRUCTIONS), "seeds": (number("SEED"), SEED), "numbers of programs": (number("PROGRAMS"), 400)}
+    return [f"{TRIAL.name} draws by other {what}: {there}" for what, (there, here) in drawn.items() if there != here]
 
 
 def following(number):
@@ -90,6 +105,7 @@ def main():
     wrong += [f"{way}: {it}" for way, verdicts in ways.items() for it in verdicts if it.startswith("neither")]
     seen = collections.Counter(it.split()[0] for it in ways["install"])
     wrong += [f"none of {count} drawn programs is {it}" for it in SEEN if count >= 400 and not seen[it]]
+    wrong += trial_differs()
     print(*wrong, sep="\n", end="\n" if wrong else "")
     print(f"{count} programs went {len(ways)} ways: {', '.join(f'{seen[it]} {it}' for it in sorted(seen))}; {len(wrong)} are wrong")
     return 1 if wrong else 0
