@@ -46,6 +46,20 @@ LAWS = names_in(LAW, "src", "laws.rt")
 CRATES = {path.name for path in (TOP / "crates").iterdir()}
 
 
+def calls_of_types():
+    """Which calls stand in a file that says what a type or a trait does."""
+    calls = defaultdict(set)
+    for path in TOP.glob("crates/*/src/**/*.rt"):
+        text = path.read_text(encoding="utf-8")
+        for owner in re.findall(r"(?m)^(?:impl\b[^{;]*|pub (?:\(\w+\) )?trait \w+)", text):
+            for name in re.findall(r"\b[A-Z]\w+", owner):
+                calls[name].update(re.findall(r"\bfn (\w+)", text))
+    return calls
+
+
+CALLS = calls_of_types()
+
+
 def path_wrong(name):
     return "" if (TOP / "crates" / name.removeprefix("crates/")).exists() else "no such path"
 
@@ -133,6 +147,8 @@ def pages():
                 elif name in NAMES and re.fullmatch(r"(?:\w+::)+\w+", span):
                     parts = [part for part in span.split("::") if part not in CRATES]
                     count, why = count + 1, "" if all(part in ITEMS or part in VARIANTS for part in parts) else "not found"
+                    if not why and len(parts) == 2 and parts[0] in CALLS and parts[1].islower() and parts[1] not in CALLS[parts[0]]:
+                        why = f"{parts[0]} has no such call"
                 elif name in NAMES and crates and re.fullmatch(r"(?:src|specs)/[\w/.]+", span):
                     count, why = count + 1, "" if any(not path_wrong(f"{crate}/{span}") for crate in crates) else "no such path"
                 elif name in NAMES and re.fullmatch(r"bq_\w+", span):
