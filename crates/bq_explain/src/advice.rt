@@ -130,6 +130,7 @@ pub(crate) fn state_advice(
     }
 }
 
+/// Chooses what helps if a need is not shown in that state; `trail` says where the registers come from that the need asks for.
 fn need_advice(
     policy: &PolicySource,
     insn: Insn,
