@@ -69,7 +69,10 @@ pub(crate) fn pull_facts_in(
         (Some(AnyCpu::Eevdf(here)), Some(AnyCpu::Eevdf(there))) => {
             pull_facts_between(alloc, puller, other, here, there)?
         }
-        _ => return Ok(None),
+        (Some(AnyCpu::Cfs(_)), Some(AnyCpu::Eevdf(_)))
+        | (Some(AnyCpu::Eevdf(_)), Some(AnyCpu::Cfs(_)))
+        | (None, _)
+        | (_, None) => return Ok(None),
     };
     Ok(Some(facts))
 }
