@@ -282,15 +282,19 @@ fn show_figures<T: Threads + Sync>(
             }
             Ok(written(rt, text.as_str(), ExitCode::SUCCESS))
         }
-        Err(SeedsFault::OutOfMemory) => Err(report_out_of_memory(rt)),
-        Err(fault) => {
-            let _ = eprintln!(rt; "bqsim: {fault}");
-            match fault {
-                SeedsFault::TooManyEvents => Err(ExitCode::from(IO_FAILED)),
-                _ => Err(ExitCode::from(BAD_INPUT)),
-            }
-        }
+        Err(fault) => Err(report_without_table(rt, &fault)),
     }
+}
+
+/// Says why there is no table of figures.
+fn report_without_table(rt: &HostRuntime, fault: &SeedsFault) -> ExitCode {
+    let status = match fault {
+        SeedsFault::Run(_) | SeedsFault::Last => BAD_INPUT,
+        SeedsFault::TooManyEvents => IO_FAILED,
+        SeedsFault::OutOfMemory => return report_out_of_memory(rt),
+    };
+    let _ = eprintln!(rt; "bqsim: {fault}");
+    ExitCode::from(status)
 }
 
 /// Runs all seeds on both sides, and returns the table of their figures.
