@@ -23,7 +23,7 @@ use Rattle.bq_policy_file.specs.Forms.{maps_option_text}
 use Rattle.bq_experiment.specs.declared.words.HookWords.{HookWords}
 use Rattle.bq_experiment.specs.declared.words.MachineWords.{MachineWords}
 use Rattle.bq_experiment.specs.declared.words.StudyWords.{StudyWords}
-use Rattle.bq_timeline.specs.declared.settings.Words.{Words}
+use Rattle.bq_timeline.specs.declared.settings.ShownWords.{ShownWords}
 use Rattle.bq_words.specs.Numbers.{below}
 use Rattle.bq_words.specs.Sizes.{discipline_named}
 use Rattle.bq_cli.specs.declared.asm.AsmWords.{AsmWords}
@@ -138,7 +138,7 @@ pub record AreReplayWords (rows : List Row) (w : ReplayWords) : Type 0 where
   pub max_bytes : IsFirstWord (codes "max-bytes") rows w.max_bytes
 
 -- a file, and how it is shown
-pub record AreShownWords (rows : List Row) (w : Words) : Type 0 where
+pub record AreShownWords (rows : List Row) (w : ShownWords) : Type 0 where
   pub file : IsFirstWord (codes "file") rows w.file
   pub form : IsFirstWord (codes "as") rows w.form
   pub from : IsFirstWord (codes "from") rows w.from

@@ -11,7 +11,7 @@ use bq_console::{
     opened, report_unread, waiting_input, word,
 };
 use bq_streams::{Counted, ErrorKeeper};
-use bq_timeline::{Settings, SettingsFault, Words, show};
+use bq_timeline::{Settings, SettingsFault, ShownWords, show};
 use clap::ArgMatches;
 use std::alloc::{AllocError, Global};
 use std::io::Read;
@@ -21,7 +21,7 @@ use std::process::ExitCode;
 #[derive(Drop)]
 pub struct TimelineWords {
     /// How it is shown, and the file of the trace.
-    pub shown: Words,
+    pub shown: ShownWords,
     /// The most bytes that are read.
     pub max_bytes: Option<String>,
 }
@@ -39,7 +39,7 @@ pub(crate) fn timeline_words(
 }
 
 /// Gathers the words that were found for a trace or a workload, and how it is shown.
-pub(crate) fn shown_words(alloc: Global, matches: &ArgMatches<'_>) -> Result<Words, AllocError>
+pub(crate) fn shown_words(alloc: Global, matches: &ArgMatches<'_>) -> Result<ShownWords, AllocError>
     ensures { IfOk result (AreShownWords (rows_of (found_of matches.now))) }
 {
     let file = word(alloc, matches, "file")?;
@@ -51,7 +51,7 @@ pub(crate) fn shown_words(alloc: Global, matches: &ArgMatches<'_>) -> Result<Wor
     let width = word(alloc, matches, "width")?;
     let theme = word(alloc, matches, "theme")?;
     let title = word(alloc, matches, "title")?;
-    Ok(Words {
+    Ok(ShownWords {
         file,
         form,
         from,
@@ -65,7 +65,7 @@ pub(crate) fn shown_words(alloc: Global, matches: &ArgMatches<'_>) -> Result<Wor
 }
 
 /// Returns what the words ask for.
-fn settings(alloc: Global, words: &Words) -> Result<Settings, WordsFault>
+fn settings(alloc: Global, words: &ShownWords) -> Result<Settings, WordsFault>
     ensures { IfOk result (AsksForSettings words.now) }
 {
     match Settings::of(alloc, words) {

@@ -6,7 +6,7 @@ use Rattle.bq_timeline.specs.Settings.{AsksForSettings, IsNoSettings, form_asked
 use Rattle.bq_timeline.specs.declared.form_names.FormName.{FormName}
 use Rattle.bq_timeline.specs.declared.form_names.FormName.TheVariants as form
 use Rattle.bq_timeline.specs.declared.settings.Settings.{Settings}
-use Rattle.bq_timeline.specs.declared.settings.Words.{Words}
+use Rattle.bq_timeline.specs.declared.settings.ShownWords.{ShownWords}
 use Rattle.bq_experiment.specs.declared.words.StudyWords.{StudyWords}
 use Rattle.bq_comparison.specs.declared.asked.Comparing.{Comparing}
 use Rattle.bq_comparison.specs.declared.asked.ComparingFault.{ComparingFault}
@@ -37,7 +37,7 @@ table_of form.Json = Some table.Json
 table_of other = None
 
 -- the form of a table, if the words are right: a report if none is named
-abbrev pub table_asked : Words → Option TableForm
+abbrev pub table_asked : ShownWords → Option TableForm
 table_asked w = option_and_then table_of (form_asked w)
 
 -- neither several seeds nor something to compare with
@@ -45,7 +45,7 @@ abbrev pub AskForNone : StudyWords → Type 0
 AskForNone words = IsNone words.seeds × (words.against.items ≡ [])
 
 -- the words name a stretch of time
-abbrev pub names_stretch : Words → Bool
+abbrev pub names_stretch : ShownWords → Bool
 names_stretch w = is_some w.from || is_some w.to
 
 -- the words ask for this many seeds, and for a table of that form that shows the window and the names that they ask for; they name no

@@ -10,7 +10,7 @@ use bq_experiment::{StudyWords, workload_names};
 use bq_report::{Names, Window};
 use bq_timeline::form_names::FormName;
 use bq_timeline::tasks_by_name::{add_tasks_by_name, note_unknown_names};
-use bq_timeline::{RefusedWord, Settings, SettingsFault, Words, word_after};
+use bq_timeline::{RefusedWord, Settings, SettingsFault, ShownWords, word_after};
 use bq_workload::Workload;
 use std::alloc::{AllocError, Global};
 use thiserror::Error;
@@ -115,7 +115,7 @@ pub fn asked_comparison(
 }
 
 /// Returns whether words name a stretch of time.
-fn names_stretch(words: &Words) -> bool
+fn names_stretch(words: &ShownWords) -> bool
     ensures { result ≡ names_stretch words.now }
 {
     words.from.is_some() || words.to.is_some()

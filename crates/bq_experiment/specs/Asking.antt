@@ -5,7 +5,7 @@ use Rattle.bq_workload.specs.Lengths.{longest}
 use Rattle.bq_words.specs.Quantities.{size_in_word, decimal_of}
 use Rattle.bq_policy_check.specs.Given.{option_bytes}
 use Rattle.bq_timeline.specs.Settings.{AsksForSettings, IsNoSettings, asked_or, form_asked, settings_option_refused as option_unset, settings_word_refused as word_unset}
-use Rattle.bq_timeline.specs.declared.settings.Words.{Words}
+use Rattle.bq_timeline.specs.declared.settings.ShownWords.{ShownWords}
 use Rattle.bq_words.specs.Sizes.{discipline_named}
 use Rattle.bq_words.specs.Durations.{duration_of}
 use Rattle.bq_workload_file.specs.declared.changes.Changes.{Changes}
@@ -48,7 +48,7 @@ abbrev pub NamesTrace : StudyWords → Type 0
 NamesTrace w = option_bytes w.shown.form ≡ Some (codes "trace")
 
 -- the words choose what is shown, and how: a stretch of time, processors, tasks, a width, a theme or a title
-abbrev pub chooses_part : Words → Bool
+abbrev pub chooses_part : ShownWords → Bool
 chooses_part w =
     is_some w.from || (is_some w.to || (is_some w.cpus || (is_some w.tasks || (is_some w.width || (is_some w.theme || is_some w.title)))))
 

@@ -7,7 +7,7 @@ ghost use Rattle.bq_timeline.specs.Settings.{optional_word_text};
 ghost use Rattle.bq_experiment.specs.Asking.{AskForChanges, AskToShow, IsNoChange, IsNotShown, change_asked, chooses_part, asked_option_refused, simulable_time, asked_word_refused};
 
 use crate::words::StudyWords;
-use bq_timeline::{RefusedWord, Settings, SettingsFault, Words, with_forms, word_after};
+use bq_timeline::{RefusedWord, Settings, SettingsFault, ShownWords, with_forms, word_after};
 use bq_words::quantities::{decimal, size};
 use bq_words::{
     DisciplineName, ProcessorCount, duration, with_disciplines, with_sizes, with_units,
@@ -115,7 +115,7 @@ fn names_trace(form: &Option<String>) -> bool
 }
 
 /// Returns whether the words choose what is shown, and how: a stretch of time, processors, tasks, a width, a theme or a title.
-fn chooses_part(words: &Words) -> bool
+fn chooses_part(words: &ShownWords) -> bool
     ensures { result ≡ chooses_part words.now }
 {
     words.from.is_some()

@@ -1,6 +1,6 @@
 //! The words after `simulate`, as they were given.
 
-use bq_timeline::Words;
+use bq_timeline::ShownWords;
 
 /// The words after `simulate`.
 #[derive(Drop)]
@@ -12,7 +12,7 @@ pub struct StudyWords {
     /// What it is compared with: files of policies, or `none`.
     pub against: Vec<String>,
     /// The form in which it is shown, and the file of the workload.
-    pub shown: Words,
+    pub shown: ShownWords,
 }
 
 /// What replaces the workload's own machine.

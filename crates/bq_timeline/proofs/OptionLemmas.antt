@@ -4,10 +4,10 @@ use Rattle.bq_timeline.specs.Settings.{IsNoSettings, IsUnusedBy, form_asked}
 use Rattle.bq_timeline.specs.declared.form_names.FormName.{FormName}
 use Rattle.bq_timeline.specs.declared.settings.SettingsFault.{SettingsFault}
 use Rattle.bq_timeline.specs.declared.settings.SettingsFault.TheVariants as fault
-use Rattle.bq_timeline.specs.declared.settings.Words.{Words}
+use Rattle.bq_timeline.specs.declared.settings.ShownWords.{ShownWords}
 
 -- an option that does not apply to the form leaves the words without settings
-pub unused_by_form : (w : Words) (form : FormName) (why : SettingsFault) → form_asked w ≡ Some form → IsUnusedBy form w why → IsNoSettings w why
+pub unused_by_form : (w : ShownWords) (form : FormName) (why : SettingsFault) → form_asked w ≡ Some form → IsUnusedBy form w why → IsNoSettings w why
 unused_by_form w form fault.Form asked h = absurd h
 unused_by_form w form fault.From asked h = absurd h
 unused_by_form w form fault.FromTooGreat asked h = absurd h

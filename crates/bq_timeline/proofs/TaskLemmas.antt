@@ -4,7 +4,7 @@ use Rattle.std.specs.Prelude.{option_and_then, option_map}
 use Rattle.std.specs.List.{range_with_len, slice_split}
 use Rattle.bq_words.specs.ProcessorSets.{is_comma}
 use Rattle.bq_timeline.specs.Settings.{AddsPart, RunBackwards, from_asked, is_name, tasks_in_parts, tasks_of_part, to_asked}
-use Rattle.bq_timeline.specs.declared.settings.Words.{Words}
+use Rattle.bq_timeline.specs.declared.settings.ShownWords.{ShownWords}
 
 -- a range begins with its first number
 range_next : (next last : ℕ) → next ≤ last
@@ -76,5 +76,5 @@ pub name_adds : (part old : List ℕ) → is_name part ≡ true → AddsPart par
 name_adds part old name = ([], rw name refl, sym (append-nil old))
 
 -- the last moment that the words name is before the first
-pub runs_backwards : (w : Words) (from to : ℕ) → from_asked w ≡ Some from → to_asked w ≡ Some to → to < from → RunBackwards w
+pub runs_backwards : (w : ShownWords) (from to : ℕ) → from_asked w ≡ Some from → to_asked w ≡ Some to → to < from → RunBackwards w
 runs_backwards w from to first last h = (from, to, first, last, h)

@@ -14,7 +14,7 @@ use Rattle.bq_timeline.specs.Times.{is_too_great}
 use Rattle.bq_timeline.specs.declared.form_names.FormName.{FormName}
 use Rattle.bq_timeline.specs.declared.form_names.FormName.TheVariants.{Report, Map, Timehist, Why, Csv, Json, Svg, Perfetto}
 use Rattle.bq_timeline.specs.declared.map_width.TheConstants.{GREATEST_WIDTH, LEAST_WIDTH}
-use Rattle.bq_timeline.specs.declared.settings.Words.{Words}
+use Rattle.bq_timeline.specs.declared.settings.ShownWords.{ShownWords}
 use Rattle.bq_timeline.specs.declared.settings.Settings.{Settings}
 use Rattle.bq_timeline.specs.declared.settings.SettingsFault.{SettingsFault}
 use Rattle.bq_timeline.specs.declared.settings.SettingsFault.TheVariants as fault
@@ -81,23 +81,23 @@ asked_or a read None = Some a
 asked_or a read (Some word) = read (string_bytes word)
 
 -- the form that is asked for, a report if none is named
-abbrev pub form_asked : Words → Option FormName
+abbrev pub form_asked : ShownWords → Option FormName
 form_asked w = asked_or Report form_named w.form
 
 -- the first moment, 0 if none is named
-abbrev pub from_asked : Words → Option ℕ
+abbrev pub from_asked : ShownWords → Option ℕ
 from_asked w = asked_or 0 duration_of w.from
 
 -- the last moment, no end if none is named
-abbrev pub to_asked : Words → Option ℕ
+abbrev pub to_asked : ShownWords → Option ℕ
 to_asked w = asked_or (2 ^ 64 - 1) duration_of w.to
 
 -- the processors as bits, all if none is named
-abbrev pub processors_asked : Words → Option ℕ
+abbrev pub processors_asked : ShownWords → Option ℕ
 processors_asked w = asked_or (2 ^ 64 - 1) processors_of w.cpus
 
 -- the tasks that are asked for by number; empty if no task is named, which means every task
-abbrev pub tasks_asked : Words → Option (List ℕ)
+abbrev pub tasks_asked : ShownWords → Option (List ℕ)
 tasks_asked w = asked_or [] tasks_in_list w.tasks
 
 -- the names in a word, none if there is no word
@@ -106,15 +106,15 @@ names_given None = []
 names_given (Some word) = names_among_parts (string_bytes word)
 
 -- the names of the tasks that are asked for by name
-abbrev pub names_asked : Words → List (List ℕ)
+abbrev pub names_asked : ShownWords → List (List ℕ)
 names_asked w = names_given w.tasks
 
 -- the columns of a map, 80 if no width is named
-abbrev pub width_asked : Words → Option ℕ
+abbrev pub width_asked : ShownWords → Option ℕ
 width_asked w = asked_or 80 width_in_word w.width
 
 -- the theme of a picture, light if none is named
-abbrev pub theme_asked : Words → Option Theme
+abbrev pub theme_asked : ShownWords → Option Theme
 theme_asked w = asked_or Light theme_of w.theme
 
 -- there is a word, and it is a time, but too great
@@ -148,7 +148,7 @@ applies_or_absent applies None = true
 applies_or_absent applies (Some word) = applies
 
 -- each option that is given applies to the form; the processors and the tasks apply to every form
-pub record AllOptionsApply (form : FormName) (w : Words) : Type 0 where
+pub record AllOptionsApply (form : FormName) (w : ShownWords) : Type 0 where
   pub from : applies_or_absent (has_stretch form) w.from ≡ true
   pub to : applies_or_absent (has_stretch form) w.to ≡ true
   pub width : applies_or_absent (has_width form) w.width ≡ true
@@ -156,7 +156,7 @@ pub record AllOptionsApply (form : FormName) (w : Words) : Type 0 where
   pub title : applies_or_absent (is_picture form) w.title ≡ true
 
 -- the words ask for these settings, and for no option that does not apply to their form
-pub record AsksForSettings (w : Words) (s : Settings) : Type 0 where
+pub record AsksForSettings (w : ShownWords) (s : Settings) : Type 0 where
   pub form : form_asked w ≡ Some s.form
   pub from : from_asked w ≡ Some s.window.from
   pub to : to_asked w ≡ Some s.window.to
@@ -170,11 +170,11 @@ pub record AsksForSettings (w : Words) (s : Settings) : Type 0 where
   pub all_apply : AllOptionsApply s.form w
 
 -- both moments are named, and the last is before the first
-abbrev pub RunBackwards : Words → Type 0
+abbrev pub RunBackwards : ShownWords → Type 0
 RunBackwards w = (from : ℕ) × (to : ℕ) × (from_asked w ≡ Some from) × (to_asked w ≡ Some to) × (to < from)
 
 -- the fault names an option that is given, and that does not apply to the form
-abbrev pub IsUnusedBy : FormName → Words → SettingsFault → Type 0
+abbrev pub IsUnusedBy : FormName → ShownWords → SettingsFault → Type 0
 IsUnusedBy form w fault.FromUnused = applies_or_absent (has_stretch form) w.from ≡ false
 IsUnusedBy form w fault.ToUnused = applies_or_absent (has_stretch form) w.to ≡ false
 IsUnusedBy form w fault.WidthUnused = applies_or_absent (has_width form) w.width ≡ false
@@ -183,12 +183,12 @@ IsUnusedBy form w fault.TitleUnused = applies_or_absent (is_picture form) w.titl
 IsUnusedBy form w other = ⊥
 
 -- the fault names an option that does not apply to the form that is asked for
-abbrev pub IsUnused : Words → SettingsFault → Type 0
+abbrev pub IsUnused : ShownWords → SettingsFault → Type 0
 IsUnused w why = (form : FormName) × (form_asked w ≡ Some form) × IsUnusedBy form w why
 
 -- the word that the fault names is not of its kind, or is a time that is too great, or the first moment is after the last, or an option does not apply to
 -- the form; memory may run out whatever the words are
-abbrev pub IsNoSettings : Words → SettingsFault → Type 0
+abbrev pub IsNoSettings : ShownWords → SettingsFault → Type 0
 IsNoSettings w fault.Form = form_asked w ≡ None
 IsNoSettings w fault.From = (from_asked w ≡ None) × (is_great w.from ≡ false)
 IsNoSettings w fault.FromTooGreat = (from_asked w ≡ None) × (is_great w.from ≡ true)
@@ -203,7 +203,7 @@ IsNoSettings w fault.OutOfMemory = ⊤
 IsNoSettings w unused = IsUnused w unused
 
 -- the word that a fault refuses; none if the fault is not that of one word
-abbrev pub settings_word_refused : Words → SettingsFault → Option (String Global)
+abbrev pub settings_word_refused : ShownWords → SettingsFault → Option (String Global)
 settings_word_refused w fault.Form = w.form
 settings_word_refused w fault.From = w.from
 settings_word_refused w fault.FromTooGreat = w.from

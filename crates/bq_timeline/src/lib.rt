@@ -21,5 +21,5 @@ pub mod viewer;
 pub mod whole_timeline;
 
 pub use refused::{RefusedWord, word_after};
-pub use settings::{Settings, SettingsFault, Words};
+pub use settings::{Settings, SettingsFault, ShownWords};
 pub use whole_timeline::{Outcome, show};

@@ -2,7 +2,7 @@
 ghost use Rattle.std.specs.Prelude.{◌≡◌, IfNone, IfSome, None, Some};
 ghost use Rattle.bq_timeline.specs.Settings.{settings_option_refused, optional_word_text, settings_word_refused};
 
-use crate::settings::{SettingsFault, Words};
+use crate::settings::{SettingsFault, ShownWords};
 use crate::with_forms;
 use bq_drawing::with_themes;
 
@@ -19,7 +19,7 @@ pub struct RefusedWord<'a> {
 
 impl SettingsFault {
     /// Returns the word that the fault refuses, and its option. `None` if the fault is not that of one word.
-    pub fn refused<'a>(self, words: &'a Words) -> Option<RefusedWord<'a>>
+    pub fn refused<'a>(self, words: &'a ShownWords) -> Option<RefusedWord<'a>>
         ensures word { IfSome result (λ r. optional_word_text (settings_word_refused words.now self) ≡ Some r.word.now) }
         ensures none { IfNone result (settings_word_refused words.now self ≡ None) }
         ensures option { IfSome result (λ r. r.option.now ≡ settings_option_refused self) }

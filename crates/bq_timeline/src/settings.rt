@@ -20,7 +20,7 @@ use thiserror::Error;
 
 /// The words of the options, as they were given.
 #[derive(Drop)]
-pub struct Words {
+pub struct ShownWords {
     /// The trace. Without a word, or with `-`, it is standard input.
     pub file: Option<String>,
     /// The form; `report` if none is named.
@@ -157,7 +157,7 @@ impl Settings {
     /// A fault other than `OutOfMemory` names a word that is not of its kind (a form, a time, processors, tasks, a width or a theme), or says
     /// that the first moment is after the last, or names an option that does not apply to the form.
     #[tactic(auto, using(crate::proofs::TaskLemmas::runs_backwards, crate::proofs::OptionLemmas::unused_by_form))]
-    pub fn of(alloc: Global, words: &Words) -> Result<Settings, SettingsFault>
+    pub fn of(alloc: Global, words: &ShownWords) -> Result<Settings, SettingsFault>
         ensures asked { IfOk result (AsksForSettings words.now) }
         ensures refused { IfErr result (IsNoSettings words.now) }
     {
@@ -190,7 +190,7 @@ impl Settings {
 }
 
 /// Checks that each option that is given applies to the form. The fault names the first that does not.
-fn check_options_apply(form: FormName, words: &Words) -> Result<(), SettingsFault>
+fn check_options_apply(form: FormName, words: &ShownWords) -> Result<(), SettingsFault>
     ensures all { OnOk result (AllOptionsApply form words.now) }
     ensures fault { IfErr result (IsUnusedBy form words.now) }
 {
@@ -233,7 +233,7 @@ fn form_or(word: &Option<String>, default: FormName) -> Option<FormName>
 }
 
 /// Returns the first moment, 0 if none is named.
-fn first_moment(words: &Words) -> Result<u64, SettingsFault>
+fn first_moment(words: &ShownWords) -> Result<u64, SettingsFault>
     ensures asked { IfOk result (λ from. from_asked words.now ≡ Some from) }
     ensures refused { IfErr result (IsNoSettings words.now) }
 {
@@ -245,7 +245,7 @@ fn first_moment(words: &Words) -> Result<u64, SettingsFault>
 }
 
 /// Returns the last moment, no end if none is named.
-fn last_moment(words: &Words) -> Result<u64, SettingsFault>
+fn last_moment(words: &ShownWords) -> Result<u64, SettingsFault>
     ensures asked { IfOk result (λ to. to_asked words.now ≡ Some to) }
     ensures refused { IfErr result (IsNoSettings words.now) }
 {
