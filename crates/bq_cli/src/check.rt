@@ -61,7 +61,7 @@ fn limit_words(alloc: Global, matches: &ArgMatches<'_>) -> Result<LimitWords, Al
     })
 }
 
-/// Returns whether there is no file and no option: then the hex of an image is read from standard input.
+/// Tells whether there is no file and no option: then the hex of an image is read from standard input.
 pub(crate) fn is_plain_check(words: &CheckWords) -> bool
     ensures { result ≡ is_plain_check words.now }
 {
@@ -72,7 +72,7 @@ pub(crate) fn is_plain_check(words: &CheckWords) -> bool
         && words.image.is_none()
 }
 
-/// Returns whether no word sets a limit.
+/// Tells whether no word sets a limit.
 fn limit_nothing(words: &LimitWords) -> bool
     ensures { result ≡ limit_nothing words.now }
 {
@@ -148,7 +148,7 @@ fn most_read(alloc: Global, words: &CheckWords) -> Result<u64, WordsFault>
     most_bytes(alloc, &words.policy.max_bytes)
 }
 
-/// Returns whether the image would go to a file of a policy.
+/// Tells whether the image would go to a file of a policy.
 fn replaces_policy(words: &CheckWords) -> bool
     ensures { result ≡ replaces_policy words.now }
 {
@@ -158,7 +158,7 @@ fn replaces_policy(words: &CheckWords) -> bool
     }
 }
 
-/// Returns whether a word is one of some words.
+/// Tells whether a word is one of some words.
 fn is_among(word: &str, others: &[String]) -> bool
     ensures { result ≡ is_among word.now others.now }
 {

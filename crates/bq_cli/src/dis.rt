@@ -23,7 +23,7 @@ pub(crate) fn dis_words(alloc: Global, matches: &ArgMatches<'_>) -> Result<DisWo
     })
 }
 
-/// Returns whether there is no file and no option: then the hex of a program is read from standard input.
+/// Tells whether there is no file and no option: then the hex of a program is read from standard input.
 pub(crate) fn is_plain_dis(words: &DisWords) -> bool
     ensures { result ≡ is_plain_dis words.now }
 {

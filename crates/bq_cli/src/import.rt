@@ -115,7 +115,7 @@ fn import_bytes(rt: &HostRuntime, name: &str, settings: &ImportSettings, bytes: 
     }
 }
 
-/// Returns whether the program is refused for the number of its bytes.
+/// Tells whether the program is refused for the number of its bytes.
 fn is_of_wrong_length(refusal: &ImportRefusal) -> bool {
     match refusal {
         ImportRefusal::Import(ImportFault::At { reason, .. }) => matches!(

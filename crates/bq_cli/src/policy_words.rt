@@ -31,7 +31,7 @@ pub(crate) fn policy_words(
     })
 }
 
-/// Returns whether no word names a file, a hook, maps, a format or a number of bytes.
+/// Tells whether no word names a file, a hook, maps, a format or a number of bytes.
 pub(crate) fn name_nothing(words: &PolicyWords) -> bool
     ensures { result ≡ name_nothing words.now }
 {

@@ -334,7 +334,7 @@ fn report_absent(rt: &HostRuntime, workload: &Workload, asked: &Comparing) {
     }
 }
 
-/// Returns whether one of that many tasks is asked for.
+/// Tells whether one of that many tasks is asked for.
 fn has_task(asked: &Comparing, count: u16) -> bool {
     for task in 0..count {
         if asked.window.shows_task(task) {
@@ -344,7 +344,7 @@ fn has_task(asked: &Comparing, count: u16) -> bool {
     false
 }
 
-/// Returns whether one of that many processors is asked for.
+/// Tells whether one of that many processors is asked for.
 fn has_processor(asked: &Comparing, count: u8) -> bool {
     for processor in 0..count {
         if asked.window.shows_processor(processor) {

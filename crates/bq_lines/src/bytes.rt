@@ -9,7 +9,7 @@ fn is_allowed(byte: u8) -> bool
     (b' ' <= byte && byte <= b'~') || byte == b'\t'
 }
 
-/// Returns whether a line may have each of these bytes.
+/// Tells whether a line may have each of these bytes.
 pub fn is_allowed_line(line: &[u8]) -> bool
     ensures { result ≡ list_all is_allowed line.now }
 {

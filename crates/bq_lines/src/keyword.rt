@@ -99,7 +99,7 @@ impl Keyword {
         }
     }
 
-    /// Returns whether a word is the word of this keyword.
+    /// Tells whether a word is the word of this keyword.
     #[inline(always)]
     fn is_word(self, word: &[u8]) -> bool
         ensures { result ≡ bytes_eq word.now (keyword_word self) }

@@ -42,7 +42,7 @@ impl PartialLine {
         }
     }
 
-    /// Returns whether nothing of the line has come.
+    /// Tells whether nothing of the line has come.
     pub fn is_empty(&self) -> bool
         ensures kept { IsTrue result ↔ (self.now ≡ Some []) }
         ensures line { (line : List ℕ) → KeepsLine self.now line → result ≡ (length line == 0) }
