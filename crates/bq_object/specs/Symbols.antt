@@ -23,10 +23,14 @@ pub record IsSymbol (entries : List ℕ) (index : ℕ) (symbol : Symbol) : Type 
 abbrev pub policy_name : List ℕ
 policy_name = 0x70 ∷ 0x6f ∷ 0x6c ∷ 0x69 ∷ 0x63 ∷ 0x79 ∷ 0 ∷ []
 
+-- a function of this file: of kind 2, in one of its sections
+pub record IsFunctionSymbol (symbol : Symbol) : Type 0 where
+  pub kind_is : symbol.kind % 16 ≡ 2
+  pub here : symbol.section ≢ 0
+
 -- a function of this file whose name is `policy`
 pub record IsPolicySymbol (names : List ℕ) (symbol : Symbol) : Type 0 where
-  pub function : symbol.kind % 16 ≡ 2
-  pub here : symbol.section ≢ 0
+  pub function : IsFunctionSymbol symbol
   pub named : IsPart names symbol.name 7 policy_name
 
 -- the first symbol that is such a function

@@ -9,6 +9,14 @@ use crate::section::HEADER_LENGTH;
 
 /// The length of the head of an ELF64 file (System V ABI, "Object Files").
 pub(crate) const HEAD_LENGTH: usize = 64;
+/// Where the head tells its class: `EI_CLASS`.
+const CLASS: usize = 4;
+/// The class of files of 64 bits: `ELFCLASS64`.
+const CLASS_64: u8 = 2;
+/// Where the head tells the order of the bytes in its numbers: `EI_DATA`.
+const BYTE_ORDER: usize = 5;
+/// The order that begins with the least byte: `ELFDATA2LSB`.
+const LITTLE_ENDIAN: u8 = 1;
 /// Where the head tells its machine: `e_machine`.
 const MACHINE: usize = 18;
 /// The machine BPF.
@@ -30,7 +38,7 @@ pub fn headers_of(file: &[u8]) -> Result<&[u8], ObjectFault>
     if file.len() < HEAD_LENGTH {
         return Err(ObjectFault::Cut(Piece::Header));
     }
-    if file[4] != 2 || file[5] != 1 {
+    if file[CLASS] != CLASS_64 || file[BYTE_ORDER] != LITTLE_ENDIAN {
         return Err(ObjectFault::Class);
     }
     if half(file, MACHINE) != BPF {

@@ -34,6 +34,15 @@ struct Table<'a> {
 /// The most slots that a policy may have.
 const SLOTS: u64 = 4096;
 
+/// The length of the heads of `.BTF` and `.BTF.ext`, as far as they are read: `btf_header` and `btf_ext_header` of the kernel.
+const BTF_HEAD: u64 = 24;
+/// Where either head tells its whole length, after which the parts of its section lie: `hdr_len`.
+const BTF_HEAD_LENGTH: usize = 4;
+/// Where either head tells at which byte after it the second part begins: `str_off`, `line_info_off`.
+const SECOND_PART: usize = 16;
+/// Where either head tells the length of the second part: `str_len`, `line_info_len`.
+const SECOND_PART_LENGTH: usize = 20;
+
 /// For each slot of the policy the line that it comes from, if the object says it. The answer is empty if the object has
 /// no lines, or no policy.
 pub fn source_lines(alloc: Global, file: &[u8]) -> Result<Vec<Option<SourceLine<'_>>>, AllocError> {
@@ -107,7 +116,7 @@ fn table_of(file: &[u8]) -> Option<Table<'_>> {
     let policy = policy_in(tables.entries, tables.names)?;
     let sections = Sections::of(file, headers)?;
     let own = sections.name(section_at(headers, u64::from(policy.section))?);
-    let strings = strings_in(sections.find(b".BTF")?)?;
+    let strings = second_part(sections.find(b".BTF")?)?;
     let (records, size) = records_in(sections.find(b".BTF.ext")?, strings, own)?;
     Some(Table {
         policy,
@@ -117,18 +126,18 @@ fn table_of(file: &[u8]) -> Option<Table<'_>> {
     })
 }
 
-/// The strings of the section `.BTF`.
-fn strings_in(types: &[u8]) -> Option<&[u8]> {
-    let head = part(types, 0, 24)?;
-    let from = u64::from(word(head, 4)).checked_add(u64::from(word(head, 16)))?;
-    part(types, from, u64::from(word(head, 20)))
+/// Returns the second part of a section of BTF, by the head of that section: the strings of `.BTF`, the lines of `.BTF.ext`.
+/// There is none if the section ends before that part does.
+fn second_part(section: &[u8]) -> Option<&[u8]> {
+    let head = part(section, 0, BTF_HEAD)?;
+    let after_head = u64::from(word(head, BTF_HEAD_LENGTH));
+    let from = after_head.checked_add(u64::from(word(head, SECOND_PART)))?;
+    part(section, from, u64::from(word(head, SECOND_PART_LENGTH)))
 }
 
 /// The records of lines in the section `.BTF.ext` that are of the section of that name, and how long each is.
 fn records_in<'a>(extension: &'a [u8], strings: &[u8], name: &[u8]) -> Option<(&'a [u8], u64)> {
-    let head = part(extension, 0, 24)?;
-    let from = u64::from(word(head, 4)).checked_add(u64::from(word(head, 16)))?;
-    let lines = part(extension, from, u64::from(word(head, 20)))?;
+    let lines = second_part(extension)?;
     let size = u64::from(word(part(lines, 0, 4)?, 0));
     let mut at: u64 = 4;
     for _ in 0..256 {

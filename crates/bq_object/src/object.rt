@@ -8,7 +8,7 @@ use crate::header::headers_of;
 use crate::numbers::part;
 use crate::relocation::check;
 use crate::section::{section_at, symbols_in};
-use crate::symbol::{Symbol, name_at, policy_in, symbol_at};
+use crate::symbol::{SYMBOL_LENGTH, Symbol, name_at, policy_in, symbol_at};
 use std::alloc::{AllocError, Global};
 use std::str;
 
@@ -101,7 +101,7 @@ pub fn others(alloc: Global, file: &[u8]) -> Result<Vec<&str>, AllocError> {
     let Ok(tables) = read_tables(file, headers) else {
         return Ok(found);
     };
-    let count = tables.entries.len() as u64 / 24;
+    let count = tables.entries.len() as u64 / SYMBOL_LENGTH;
     for index in 0..count {
         if let Some(name) = other_at(tables.entries, tables.names, index) {
             found.push(name)?;

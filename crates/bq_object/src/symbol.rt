@@ -1,7 +1,7 @@
 //! Symbols: what has a name in an object file.
 ghost use Rattle.std.specs.Prelude.{◌≡◌, ◌<◌, ◌+◌, ◌*◌, ◌↔◌, IsTrue, length, IfSome, IfNone};
 ghost use Rattle.bq_object.specs.declared.symbol.Symbol.{Symbol as SymbolValue};
-ghost use Rattle.bq_object.specs.Symbols.{HasNoPolicy, IsFirstPolicy, IsPolicySymbol, IsSymbol, symbol_of};
+ghost use Rattle.bq_object.specs.Symbols.{HasNoPolicy, IsFirstPolicy, IsFunctionSymbol, IsPolicySymbol, IsSymbol, symbol_of};
 
 use crate::numbers::{half, part, wide, word};
 
@@ -10,7 +10,7 @@ use crate::numbers::{half, part, wide, word};
 pub struct Symbol {
     /// Where its name begins among the names.
     pub name: u32,
-    /// What kind of symbol it is, in the low four bits: 2 is a function.
+    /// What kind of symbol it is, in the low four bits: `FUNCTION` is a function.
     pub kind: u8,
     /// The number of the section that has it; 0 if no section does.
     pub section: u16,
@@ -19,6 +19,11 @@ pub struct Symbol {
     /// How many bytes it has.
     pub long: u64,
 }
+
+/// The length of an entry of a table of symbols: `Elf64_Sym` (System V ABI, "Object Files": ELF64).
+pub(crate) const SYMBOL_LENGTH: u64 = 24;
+/// The kind of a function, in the low four bits of `st_info`: `STT_FUNC`.
+const FUNCTION: u8 = 2;
 
 impl Symbol {
     /// What the 24 bytes of an entry say.
@@ -35,19 +40,21 @@ impl Symbol {
         }
     }
 
-    /// Whether it is a function of this file.
-    pub fn is_function(self) -> bool {
-        self.kind % 16 == 2 && self.section != 0
+    /// Tells whether the symbol is a function that a section of this file has.
+    pub fn is_function(self) -> bool
+        ensures { IsTrue result ↔ IsFunctionSymbol self }
+    {
+        self.kind % 16 == FUNCTION && self.section != 0
     }
 
-    /// Whether it is the function `policy`.
+    /// Tells whether the symbol is the function `policy` of this file.
     pub fn is_policy(self, names: &[u8]) -> bool
         ensures { IsTrue result ↔ IsPolicySymbol names.now self }
     {
         let Some(name) = part(names, u64::from(self.name), 7) else {
             return false;
         };
-        self.kind % 16 == 2 && self.section != 0 && name == b"policy\0".as_slice()
+        self.is_function() && name == b"policy\0".as_slice()
     }
 }
 
@@ -56,7 +63,7 @@ pub fn symbol_at(entries: &[u8], index: u64) -> Option<Symbol>
     ensures some { IfSome result (IsSymbol entries.now index) }
     ensures none { IfNone result (length entries.now < index * 24 + 24) }
 {
-    let entry = part(entries, index.checked_mul(24)?, 24)?;
+    let entry = part(entries, index.checked_mul(SYMBOL_LENGTH)?, SYMBOL_LENGTH)?;
     Some(Symbol::read(entry))
 }
 
@@ -79,7 +86,7 @@ pub fn policy_in(entries: &[u8], names: &[u8]) -> Option<Symbol>
     ensures some { IfSome result (IsFirstPolicy entries.now names.now) }
     ensures none { IfNone result (HasNoPolicy entries.now names.now) }
 {
-    let count = entries.len() as u64 / 24;
+    let count = entries.len() as u64 / SYMBOL_LENGTH;
     for index in 0..count {
         if let Some(symbol) = policy_at(entries, names, index) {
             return Some(symbol);
