@@ -129,6 +129,8 @@ ALLOWED = {
     'the same lemma: bq_drawing/proofs/PictureLemmas.antt: shapes_next, bq_explain/proofs/LineLemmas.antt: one_line_more': 'a fact of the library\'s `flat_map`, which it has no lemma for; neither crate stands on the other',
     'the same lemma: bq_insn/proofs/EncodeLemmas.antt: on_err, bq_report/proofs/NameLemmas.antt: where_err, bq_streams/proofs/ResultLemmas.antt: OnErr-anyhow': 'a fact of the library\'s results, which it has no lemma for; no crate below all three could have it',
     'how many slots or bytes a program has at most, in words: bq_asm_faults/src/number_reason.rt': 'the least offset and distance of 16 bits, -32768',
+    'an exit status: bq_object/src/header.rt': 'the numbers by which ELF tells 64 bits and the order of bytes',
+    'an exit status: bq_object/src/symbol.rt': 'the number by which ELF tells that a symbol is a function',
     'how many slots a program has at most: bq_object/src/line_table.rt': 'the crate reads objects and stands on no crate of instructions, so its own bound on lines says the number once more',
     'the weight of nice value 0: bq_object/src/line_table.rt': 'the line of a line record is its number divided by 1024, which only happens to be that weight',
     'which helpers are of counters: bq_interp/src/counters.rt': 'asked at each call of a run, of the number alone, by a function that stands in its loop',
