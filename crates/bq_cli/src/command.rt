@@ -4,6 +4,7 @@ ghost use Rattle.clap.specs.Words.{fault_of, takes, subcommand_of, subcommand_ro
 ghost use Rattle.bq_cli.specs.BqsimApp.{bqsim_app};
 ghost use Rattle.bq_cli.specs.Commands.{IsCommand, IsCommandIn};
 ghost use Rattle.bq_cli.specs.Words.{OnlyMemoryFails};
+ghost use Rattle.bq_cli.specs.declared.command.Command.{Command as CommandValue};
 
 use crate::asm::{AsmWords, asm_words};
 use crate::check::check_words;
