@@ -17,6 +17,7 @@ import argparse
 import pathlib
 import random
 import re
+import shlex
 
 from lab_grader import BadExam, exams, labs, results
 from lab_grader.judging import KINDS, Judge, with_slices
@@ -78,7 +79,8 @@ def keep(exam, folder):
     try:
         os.makedirs(folder, exist_ok=True)
         for case in exam.cases.values():
-            pathlib.Path(folder, re.sub(r"[^\w.-]+", "-", case.name) + ".toml").write_text(with_slices(case, KINDS).text, encoding="utf-8")
+            path = pathlib.Path(folder, re.sub(r"[^\w.-]+", "-", case.name) + ".toml")
+            path.write_text(f"# Run it with {shlex.join(case.words())}\n{with_slices(case, KINDS).text}", encoding="utf-8")
     except OSError as failure:
         raise BadExam(f"{folder} can't be written: {failure.strerror}") from failure
 

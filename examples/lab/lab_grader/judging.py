@@ -75,7 +75,7 @@ class Judge:
         if not answer["accepted"]:
             raise Refused(answer["answer"], "\n".join(answer["explanation"]))
         if answer["hook"] != self.exam.takes:
-            raise NotJudged(f"wrong hook: it is a policy for {answer['hook']}, and wanted is one for {self.exam.takes}")
+            raise NotJudged(f"wrong hook: it is for {answer['hook']} and not for {self.exam.takes}")
         return path
 
     def slices(self, handed_in):
@@ -84,7 +84,7 @@ class Judge:
         found = {kind: {slice_ for task, slice_ in there.items() if task == kind or task.startswith(f"{kind}-")} for kind in KINDS}
         for kind, slices in found.items():
             if len(slices) != 1:
-                raise Refused(f"{len(slices)} slices of {kind}, and wanted is one")
+                raise Refused(f"one slice of {kind} is needed and {len(slices) or 'none'} found")
         return {kind: slices.pop() for kind, slices in found.items()}
 
     def judged(self, cases):

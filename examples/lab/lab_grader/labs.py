@@ -25,6 +25,7 @@ def sleeps_and_runs(sleep, least, most):
 
 
 ALWAYS = 'run = "10ms"'
+ONCE = 'run = "10us"\nloops = 1'
 
 
 def editor(draw, nice):
@@ -80,32 +81,39 @@ def eevdf(seed):
     return exam
 
 
-def clients(count, run, spread, sleep):
-    return task("client", sleeps_and_runs(f"{sleep}us", run - spread, run + spread), count=count)
-
-
 def place(seed):
-    """docs/LAB_PLACE.md. Where a move is dear all processors are busy, and where it is cheap some are idle."""
+    """docs/LAB_PLACE.md. One machine is busy, and moves are dear there; on two others some processors are idle, and moves are cheap."""
     exam, draw = Exam("lab place", "place", seed), Draw(seed)
     count = 4 * draw.between(1, 2)
-    run = draw.between(250, 400)
-    dear = machine(processors=count, duration="500ms", migration_cost=f"{run * draw.between(70, 100) // 100}us")
-    dear += clients(draw.between(3 * count, 4 * count), run, 100, run * draw.between(120, 160) // 100)
-    exam.add(Case("dear", dear, "cfs", draw.seed(), 5), ("", "wakes>=104%", 2), ("", "wakes>=108%", 2))
-    tasks, run = draw.between(5 * count // 4 + 1, 2 * count), draw.between(3000, 6000)
-    cheap = machine(processors=count, duration="2s", migration_cost=f"{draw.between(50, 150)}us")
-    cheap += clients(tasks, run, 1500, run * tasks * 5 // (3 * count) - run)
-    exam.add(Case("cheap", cheap, "cfs", draw.seed(), 3), ("", "wakes>=98%", 0), ("", "waited<=150%", 0))
+
+    def clients(name, tasks, run, spread, sleep, cost, *aims, duration="2s", seeds=3):
+        """Each machine has as many tasks, of which those that are no clients run once, so a task's number says nothing."""
+        kinds = draw.in_some_order(["client"] * tasks + ["boot"] * (5 * count - tasks))
+        do = {"client": sleeps_and_runs(f"{sleep}us", run - spread, run + spread), "boot": ONCE}
+        text = machine(processors=count, duration=duration, migration_cost=f"{cost}us") + "".join(task(f"{kind}-{k}", do[kind]) for k, kind in enumerate(kinds))
+        exam.add(Case(name, text, "cfs", draw.seed(), seeds), *aims)
+
+    def spare(name, tasks):
+        """A machine of which 60 % of the time is used."""
+        run = draw.between(3000, 6000)
+        sleep, cost = run * tasks * 5 // (3 * count) - run, draw.between(50, 150)
+        clients(name, tasks, run, 1500, sleep, cost, ("", "wakes>=98%", 0), ("", "waited<=150%", 0))
+
+    run, tasks = draw.between(250, 400), draw.between(3 * count, 4 * count)
+    sleep, cost = run * draw.between(110, 140) // 100, run * draw.between(90, 100) // 100
+    clients("busy", tasks, run, 100, sleep, cost, ("", "wakes>=107%", 2), ("", "wakes>=110%", 2), duration="500ms", seeds=5)
+    spare("spare", draw.between(5 * count // 4 + 1, 3 * count // 2))
+    spare("less spare", draw.between(3 * count // 2 + 1, 2 * count))
     return exam
 
 
 def pull(seed):
-    """docs/LAB_PULL.md. Jobs that never sleep, on two processors. The tasks `boot` run once and briefly; they shift the jobs' numbers."""
+    """docs/LAB_PULL.md. Jobs that never sleep, on two processors."""
     exam, draw = Exam("lab pull", "pull", seed), Draw(seed)
 
     def jobs(name, count, balance, *aims):
         """`balance` is in microseconds, and no multiple of the tick: else a search would find the same task waiting each time."""
-        boot = task("boot", 'run = "10us"\nloops = 1', count=draw.between(2, 4))
+        boot = task("boot", ONCE, count=draw.between(2, 4))  # so that the jobs' numbers differ each time
         text = machine(processors=2, duration="4s", balance=f"{balance}us") + boot + task("job", ALWAYS, count=count)
         exam.add(Case(name, text, "cfs", draw.seed(), 1), *aims)
 

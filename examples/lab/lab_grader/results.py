@@ -77,14 +77,17 @@ def as_json(results, exam, explains):
     """An object a line for each file."""
     for it in results:
         answer = {"schema": 1, "file": plain(it.file), "exam": exam.title, "seed": exam.seed, "outcome": it.outcome, "points": it.points}
-        answer.update(of=it.of, reason=it.reason or None, sha256=it.sha256 or None, program=it.program or None, aims=list(map(aim, it.aims)))
+        answer.update(of=it.of, reason=it.reason or None, sha256=it.sha256 or None, program=it.program or None, aims=[aim(each, exam) for each in it.aims])
         yield json.dumps({**answer, "explanation": it.explanation} if explains else answer)
 
 
-def aim(it):
+def aim(it, exam):
     """An aim. `came` and `limit` are in thousandths of a nanosecond or of a count, rounded down."""
+    case = exam.cases[it.aim.case]
     return {
         "workload": it.aim.case,
+        "seed": case.seed,
+        "seeds": case.seeds,
         "task": it.aim.task or None,
         "figure": it.aim.want.figure,
         "aim": it.aim.want.of_task(it.aim.task),

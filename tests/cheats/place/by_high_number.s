@@ -1,0 +1,10 @@
+;@ hook place
+; A constant: where moves are dear there are more tasks, so those of high numbers stay where they were.
+ldxw r0, [r1+36]
+ldxw r2, [r1+0]
+ldxw r3, [r1+32]
+lsh64 r3, 1
+jlt64 r2, r3, done
+ldxw r0, [r1+28]
+done:
+exit

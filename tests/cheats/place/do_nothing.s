@@ -1,0 +1,4 @@
+;@ hook place
+; Answers what the discipline would.
+ldxw r0, [r1+36]
+exit

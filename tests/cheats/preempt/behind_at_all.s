@@ -1,0 +1,11 @@
+;@ hook preempt
+; Never looks at weights: the running task gives way as soon as it is ahead at all.
+ldxw r0, [r1+48]
+ldxw r4, [r1+4]
+jeq64 r4, 0, done
+ldxdw r2, [r1+16]
+ldxdw r3, [r1+40]
+jlt64 r2, r3, done
+mov64 r0, 1
+done:
+exit

@@ -1,0 +1,10 @@
+;@ hook preempt
+; A constant of editor.toml: its editor is task 0.
+ldxw r0, [r1+48]
+ldxw r2, [r1+4]
+ldxw r3, [r1+32]
+jne64 r2, 1, done
+jne64 r3, 0, done
+mov64 r0, 1
+done:
+exit

@@ -1,0 +1,4 @@
+;@ hook pull
+; Answers what the discipline would.
+ldxw r0, [r1+24]
+exit
