@@ -60,9 +60,10 @@ class Class:
     def __init__(self, program, folder):
         self.program, self.folder = program, Path(folder)
 
-    def grade(self, words, files, program=None, grader=GRADE, folder=None):
-        """The exit status, standard output and standard error."""
-        words = [sys.executable, str(grader), "--bqsim", str(program or self.program), *map(str, words), *map(os.fsdecode, files)]
+    def grade(self, words, files, program=None, grader=None, folder=None):
+        """The exit status, standard output and standard error. Python finds only its own modules; another grader finds what stands beside it too."""
+        python = [sys.executable, grader] if grader else [sys.executable, "-I", "-S", GRADE]
+        words = [*map(str, [*python, "--bqsim", program or self.program, *words]), *map(os.fsdecode, files)]
         done = subprocess.run(words, cwd=folder or self.folder, capture_output=True, stdin=subprocess.DEVNULL, timeout=300)
         out, said = (text.decode("utf-8", "backslashreplace") for text in (done.stdout, done.stderr))
         expect("Traceback" not in out + said and "fault of the grader" not in said, "the grader fails:", words, out, said)
@@ -199,7 +200,8 @@ def sources(room):
     """What is no source, is for another hook, is a solution or is refused."""
     subprocess.run([room.program, "check", "--image", "image", solution(room)], cwd=room.folder, check=True, capture_output=True)
     image = (room.folder / "image").read_bytes()
-    binaries = {"image.s": image, "hex.s": image.hex(), "later.s": "\n \t" + image.hex(), "object.s": b"\x7fELF" + image, "latin.s": b"; \xe9\nexit\n"}
+    binaries = {"image.s": image, "hex.s": image.hex(), "later.s": "\n \t" + image.hex()}
+    binaries.update({"object.s": b"\x7fELF" + image, "latin.s": b"; \xe9\nexit\n"})
     room.has_no_points(SMALL, [room.put(*it) for it in binaries.items()], "bring the source")
     hooks = [room.put(f"hook-{name}", marked(LAB / "solutions" / name)) for name in ("place.s", "pull.s")]
     room.has_no_points(SMALL, hooks, "wrong hook")
@@ -280,29 +282,63 @@ AIMS = [
     {"workload": "hidden.toml", "task": "build", "must": "cpu>=95%fair"},
     {"workload": "hidden.toml", "must": "switches<=1000"},
 ]
-BAD = [
-    "", "{", "[]", "null", "7", "{}", '{"aims": []}', '{"aims": 3}', '{"aims": [3]}', "[" * 100_000, '{"aims": [{}]}', "\x00", '{"aims": [{"workload": 1}]}',
-    *({"aims": [{**AIMS[0], **it}]} for it in (
-        {"want": "p95"}, {"want": "p95<0.1ms"}, {"want": "p95<=0.1"}, {"want": "p95<=1e9ms"}, {"want": "p96<=1ms"}, {"want": "cpu<=3"}, {"want": "wakes<=3ms"},
-        {"want": ""}, {"want": 3}, {"want": "p95<=5msfair"}, {"want": "cpu>=5%wakes"}, {"want": "cpu>=5%nothing"}, {"task": "none"}, {"task": 3}, {"task": ""},
-        {"points": 0}, {"points": -1}, {"points": 1.5}, {"points": True}, {"points": 10**9}, {"must": "cpu>=1%"}, {"workload": "missing.toml"},
-        {"workload": "/"}, {"workload": "exam.json"}, {"workload": "a\x00b"}, {"wnat": "p95<=1ms"},
-    )),
-    {"aims": AIMS, "hook": "none"}, {"aims": AIMS, "discipline": "fifo"}, {"aims": AIMS, "seeds": 0}, {"aims": AIMS, "seeds": "5"}, {"aims": AIMS, "more": 1},
-]  # fmt: skip
-WORDS = [
-    [], ["--lab"], ["--lab", "none", "x"], ["--workload", "hidden.toml", "x"], ["--want", "p95<=1ms", "x"], ["--exam", "missing.json", "x"], ["--seed", "-1", "x"],
-    ["--seed", str(2**63), "x"], ["--seeds", "0", "--workload", "hidden.toml", "--must", "cpu>=1%", "x"], ["--bqsim", "missing", "x"], ["--unknown", "x"],
-    ["--workload", "hidden.toml", "--task", "editor", "--want", "0: p95<=1ms", "x"], ["--workload", "hidden.toml", "--task", "editor", "--want", "x: p95<=1ms", "x"],
-    ["--lab", "pull", "--exam", "exam.json", "x"], ["--as", "xml", "x"], ["--hook", "pull", "x"], ["--keep", "exam.json/x", "x"],
-]  # fmt: skip
+BAD_TEXTS = ["", "{", "[]", "null", "7", "{}", '{"aims": []}', '{"aims": 3}', '{"aims": [3]}', '{"aims": [{}]}', "\x00", "[" * 100_000]
+BAD_KEYS = ['"hook": "none"', '"discipline": "fifo"', '"seeds": 0', '"seeds": "5"', '"more": 1']
+BAD_AIMS = """
+"want": "p95"
+"want": "p95<0.1ms"
+"want": "p95<=0.1"
+"want": "p95<=1e9ms"
+"want": "p96<=1ms"
+"want": "p95<=5msfair"
+"want": "cpu<=3"
+"want": "cpu>=5%wakes"
+"want": "cpu>=5%nothing"
+"want": "wakes<=3ms"
+"want": ""
+"want": 3
+"must": "cpu>=1%"
+"wnat": "p95<=1ms"
+"task": "none"
+"task": 3
+"task": ""
+"points": 0
+"points": -1
+"points": 1.5
+"points": true
+"points": 1000000000
+"workload": "missing.toml"
+"workload": "/"
+"workload": "exam.json"
+"workload": "a\\u0000b"
+"workload": 1
+"""
+BAD_WORDS = """
+--lab
+--lab none x
+--lab pull --exam exam.json x
+--exam missing.json x
+--want p95<=1ms x
+--hook pull x
+--workload hidden.toml x
+--workload hidden.toml --must cpu>=1% --seeds 0 x
+--workload hidden.toml --task editor --want 0:p95<=1ms x
+--workload hidden.toml --task editor --want x:p95<=1ms x
+--seed -1 x
+--seed 9223372036854775808 x
+--seed x x
+--as xml x
+--keep exam.json/x x
+--bqsim missing x
+--unknown x
+"""
 
 
 def thousandths(room, aim, policy):
-    """What simulate says of an aim's figure: the greatest or the least mean of its tasks, or the sum of all."""
+    """What simulate says of an aim's figure: the means of its tasks, or the sum of all."""
     words = ["simulate", "--as", "json", "--seed", aim["seed"], "--seeds", aim["seeds"], "hidden.toml", *(["--preempt", policy] if policy else [])]
-    figures = json.loads(subprocess.run([room.program, *map(str, words)], cwd=room.folder, check=True, capture_output=True).stdout)["figures"]
-    found = [it for it in figures if it["of"].startswith("task ") and it["figure"] == aim["figure"]]
+    answer = subprocess.run([room.program, *map(str, words)], cwd=room.folder, check=True, capture_output=True).stdout
+    found = [it for it in json.loads(answer)["figures"] if it["of"].startswith("task ") and it["figure"] == aim["figure"]]
     if not aim["task"]:
         return [sum(it["mean_thousandths"] for it in found)]
     return [it["mean_thousandths"] for it in found if it["name"] == aim["task"] or it["name"].startswith(f"{aim['task']}-")]
@@ -334,14 +370,19 @@ def class_of_a_teacher(room):
 
 
 def bad_exams(room):
-    for text in BAD:
-        room.put("bad.json", text if isinstance(text, str) else json.dumps(text))
+    """Exams and words that can't be meant: status 2, a reason, and nothing judged."""
+    room.put("hidden.toml", HIDDEN)
+    room.put("exam.json", json.dumps({"aims": AIMS}))
+    exams = [*BAD_TEXTS, *(json.dumps({**json.loads(f"{{{it}}}"), "aims": AIMS}) for it in BAD_KEYS)]
+    exams += [json.dumps({"aims": [{**AIMS[0], **json.loads(f"{{{it}}}")}]}) for it in BAD_AIMS.split("\n")[1:-1]]
+    for text in exams:
+        room.put("bad.json", text)
         status, out, said = room.grade(["--exam", "bad.json"], ["first.s"])
-        expect(status == 2 and not out and said.startswith("grade.py: "), "an exam is taken:", str(text)[:200], status, out, said)
-    for words in WORDS:
-        status, out, said = room.grade(words, [])
+        expect(status == 2 and not out and said.startswith("grade.py: "), "an exam is taken:", text[:200], status, out, said)
+    for words in BAD_WORDS.split("\n")[:-1]:
+        status, out, said = room.grade(words.split(), [])
         expect(status == 2 and not out and said, "words are taken:", words, status, out, said)
-    return len(BAD) + len(WORDS)
+    return len(exams) + len(BAD_WORDS.split("\n")[:-1])
 
 
 def random_files(room, seed):

@@ -2,6 +2,7 @@
 
 Each lab asks for an improvement, which is worth points, and has conditions on what may not get worse. So who changes nothing gets no points.
 """
+import json
 from pathlib import Path
 
 from .exams import SLICES, Draw, Exam
@@ -10,14 +11,18 @@ from .program import Case
 FOLDER = Path(__file__).resolve().parent.parent
 
 
-def task(name, do, nice=0, count=0, **more):
-    """A table [[task]]; `do` is all that says what the task does. Without a count it is one task of this very name."""
-    keys = {"name": f'"{name}"', "nice": nice, **({"count": count} if count else {}), **{key: f'"{value}"' for key, value in more.items()}}
-    return "[[task]]\n" + "".join(f"{key} = {value}\n" for key, value in keys.items()) + do + "\n"
+def table(head, **keys):
+    """A table of a workload; None leaves a key out."""
+    return "\n".join([head, *(f"{key} = {json.dumps(value)}" for key, value in keys.items() if value is not None), ""])
+
+
+def task(name, do, **keys):
+    """A table [[task]]; `do` is the line that says what the task does. Without a count it is one task of this very name."""
+    return table("[[task]]", name=name, **keys) + f"{do}\n"
 
 
 def machine(**keys):
-    return "[machine]\n" + "".join(f"{key} = {value if isinstance(value, int) else chr(34) + value + chr(34)}\n" for key, value in keys.items())
+    return table("[machine]", **keys)
 
 
 def sleeps_and_runs(sleep, least, most):
@@ -30,13 +35,13 @@ ONCE = 'run = "10us"\nloops = 1'
 
 def editor(draw, nice):
     least = draw.between(800, 1200)
-    return task("editor", sleeps_and_runs(f"{draw.between(15, 25)}ms", least, least + draw.between(400, 800)), nice)
+    return task("editor", sleeps_and_runs(f"{draw.between(15, 25)}ms", least, least + draw.between(400, 800)), nice=nice)
 
 
 def guest(draw, nice):
     """A task that is no heavier than the build, and wakes more often and more briefly than the editor."""
     least = draw.between(80, 150)
-    return task("guest", sleeps_and_runs(f"{draw.between(8, 15)}ms", least, least + draw.between(40, 100)), nice)
+    return task("guest", sleeps_and_runs(f"{draw.between(8, 15)}ms", least, least + draw.between(40, 100)), nice=nice)
 
 
 def preempt(seed):
@@ -44,9 +49,9 @@ def preempt(seed):
     exam, draw = Exam("lab preempt", "preempt", seed), Draw(seed)
     turned = draw.between(0, 1)
 
-    def beside(name, one, nice, turn, *aims, builds=0, seconds=1, seeds=5):
-        tables = [one, task("build", ALWAYS, nice, builds)]
-        text = machine(duration=f"{seconds}s") + "".join(tables[::-1] if turn else tables)
+    def beside(name, one, nice, turn, *aims, builds=None, duration="1s", seeds=5):
+        tables = [one, task("build", ALWAYS, nice=nice, count=builds)]
+        text = machine(duration=duration) + "".join(tables[::-1] if turn else tables)
         exam.add(Case(name, text, "cfs", draw.seed(), seeds), *aims)
 
     points = (("editor", "p95<=50%", 1), ("editor", "p95<=10%", 1), ("editor", "cpu>=100%", 0))
@@ -58,12 +63,12 @@ def preempt(seed):
     beside("lighter guest", guest(draw, lighter + draw.between(3, 5)), lighter, turned, *fair)
     beside("equal guest", guest(draw, equal), equal, not turned, *fair)
     nice = draw.between(-4, 4)
-    beside("crowd", editor(draw, nice - 4), nice, draw.between(0, 1), ("editor", "p95<=108%", 0), builds=draw.between(4, 5), seconds=2, seeds=50)
+    beside("crowd", editor(draw, nice - 4), nice, draw.between(0, 1), ("editor", "p95<=108%", 0), builds=draw.between(4, 5), duration="2s", seeds=50)
     values = [draw.between(-3, 1)]
     for _ in range(3):
         values.append(values[-1] + draw.between(3, 5))
-    shares = machine(duration="2s") + "".join(task(f"share-{k}", ALWAYS, nice) for k, nice in enumerate(draw.in_some_order(values)))
-    exam.add(Case("shares", shares, "cfs", draw.seed(), 1), ("share", "cpu>=90%fair", 0), ("", "switches<=80%", 2))
+    tasks = [task(f"share-{number}", ALWAYS, nice=value) for number, value in enumerate(draw.in_some_order(values))]
+    exam.add(Case("shares", machine(duration="2s") + "".join(tasks), "cfs", draw.seed(), 1), ("share", "cpu>=90%fair", 0), ("", "switches<=80%", 2))
     return exam
 
 
@@ -90,7 +95,8 @@ def place(seed):
         """Each machine has as many tasks, of which those that are no clients run once, so a task's number says nothing."""
         kinds = draw.in_some_order(["client"] * tasks + ["boot"] * (5 * count - tasks))
         do = {"client": sleeps_and_runs(f"{sleep}us", run - spread, run + spread), "boot": ONCE}
-        text = machine(processors=count, duration=duration, migration_cost=f"{cost}us") + "".join(task(f"{kind}-{k}", do[kind]) for k, kind in enumerate(kinds))
+        tables = [task(f"{kind}-{number}", do[kind]) for number, kind in enumerate(kinds)]
+        text = machine(processors=count, duration=duration, migration_cost=f"{cost}us") + "".join(tables)
         exam.add(Case(name, text, "cfs", draw.seed(), seeds), *aims)
 
     def spare(name, tasks):
