@@ -15,7 +15,6 @@ import io
 import json
 import os
 import random
-import re
 import shutil
 import socket
 import subprocess

@@ -65,14 +65,12 @@ class Met:
     is_met: bool
 
 
-def limit(aim, task, without, figures):
-    """The limit for a task; None if what it is a part of is missing."""
-    want = aim.want
+def limit(want, task, without, figures):
+    """The limit for a task, or for all together; None if what it is a part of is missing."""
     amount = Fraction(want.number)
     if want.unit != "%":
         return amount * UNITS.get(want.unit, 1) * 1000
-    source, figure = (figures, want.of) if want.of else (without, want.figure)
-    whole = source.value(task, figure) if task else source.total(figure)
+    whole = figures.value(task, want.of) if want.of else without.value(task, want.figure)
     return None if whole is None else whole * amount / 100
 
 
@@ -80,20 +78,19 @@ def met(aim, without, figures):
     """How far the figures of a run meet an aim, where `without` has those of the same run without the file."""
     found = []
     for task in figures.tasks(aim.task) if aim.task else [""]:
-        came = figures.value(task, aim.want.figure) if task else figures.total(aim.want.figure)
-        most = limit(aim, task, without, figures)
-        room = None if came is None or most is None else most - came if aim.want.at_most else came - most
-        found.append((-1 if room is None else room, came, Fraction(0) if most is None else most, room is not None and room >= 0))
-    _, came, most, is_met = min(found, key=lambda it: (it[3], it[0]))
-    return Met(aim, figures.units[aim.want.figure], came, most, is_met)
+        came, bound = figures.value(task, aim.want.figure), limit(aim.want, task, without, figures)
+        is_known = came is not None and bound is not None
+        room = (bound - came if aim.want.at_most else came - bound) if is_known else -1
+        found.append((room >= 0, room, came, bound or Fraction(0)))
+    is_met, _, came, bound = min(found, key=lambda it: it[:2])
+    return Met(aim, figures.units[aim.want.figure], came, bound, is_met)
 
 
 def check(aim, without):
     """Refuses an aim that the figures of its case, without a file, do not have."""
-    want = aim.want
-    tasks = without.tasks(aim.task)
+    want, tasks = aim.want, without.tasks(aim.task) if aim.task else [""]
     if not tasks:
-        raise BadExam(f"{aim}: the workload has no task {aim.task!r}; it has {', '.join(without.tasks(''))}")
+        raise BadExam(f"{aim}: the workload has no task {aim.task!r}; it has {', '.join(without.names.values())}")
     for figure in filter(None, [want.figure, want.of]):
         if figure not in without.units:
             raise BadExam(f"{aim}: there is no figure {figure!r}; there are {', '.join(without.units)}")

@@ -30,25 +30,26 @@ class Case:
 
 
 class Figures:
-    """The means of a case, in thousandths of a nanosecond or of a count."""
+    """The means of a case, in thousandths of a nanosecond or of a count. A task goes by what bqsim calls it: `task 3`."""
 
     def __init__(self, answer):
-        self.values, self.units = {}, {}
+        self.names, self.values, self.units = {}, {}, {}
         for it in answer["figures"]:
             if it["of"].startswith("task "):
-                self.values[it["name"], it["figure"]] = None if it["mean_thousandths"] is None else Fraction(it["mean_thousandths"])
+                mean = it["mean_thousandths"]
+                self.names[it["of"]] = it["name"]
+                self.values[it["of"], it["figure"]] = None if mean is None else Fraction(mean)
                 self.units[it["figure"]] = it["unit"]
 
     def tasks(self, name):
-        """The tasks of this name, or of this kind, whose tasks are NAME-0, NAME-1, .. All tasks, if it is empty."""
-        there = dict.fromkeys(task for task, _ in self.values)
-        return [task for task in there if not name or task == name or re.fullmatch(re.escape(name) + r"-\d+", task)]
+        """The tasks of this name, or of this kind, whose tasks are NAME-0, NAME-1, .."""
+        return [task for task, called in self.names.items() if called == name or re.fullmatch(re.escape(name) + r"-\d+", called)]
 
     def value(self, task, figure):
-        return self.values.get((task, figure))
-
-    def total(self, figure):
-        return sum((value for (_, name), value in self.values.items() if name == figure and value is not None), Fraction(0))
+        """Of a task; of all tasks together, if it is empty."""
+        if task:
+            return self.values.get((task, figure))
+        return sum((value for (_, each), value in self.values.items() if each == figure and value is not None), Fraction(0))
 
 
 class Bqsim:
@@ -113,4 +114,4 @@ class Bqsim:
         if status:
             raise Refused("refused workload", said)
         names = dict(re.findall(r"(?m)^# task (\d+) (.*)$", written))
-        return {names[task]: int(slice_) for task, slice_ in re.findall(r"(?m)^admit (\d+) .* (\d+)$", written)}
+        return {names.get(task, ""): int(slice_) for task, slice_ in re.findall(r"(?m)^admit (\d+) .* (\d+)$", written)}
