@@ -7,18 +7,18 @@ from pathlib import Path
 from .runs import TOP, Answer, Failed, cut
 
 # The words of each: the script, BQSIM for the program, how many cases, and the seed. Those that take longest come first; the longest takes
-# some twelve seconds of a processor, all together about a minute.
+# some twenty seconds of a processor, all together less than two minutes.
 MODELS = [
+    "tests/classroom.py BQSIM cheats",
     "tests/compare_with_model.py BQSIM 100 1",
     "tests/drawn_policies.py BQSIM 20000 1",
+    "tests/classroom.py BQSIM teacher",
+    "tests/classroom.py BQSIM student",
     "tests/compare_run.py BQSIM 1000 1",
     "tests/compare_timeline.py BQSIM 100 1",
     "tests/compare_timeline.py BQSIM --near 200 1",
     "tests/compare_why.py BQSIM 60 1",
     "tests/simulate_model.py BQSIM 500 1",
-    "tests/classroom.py BQSIM cheats",
-    "tests/classroom.py BQSIM student",
-    "tests/classroom.py BQSIM teacher",
     "tests/refusals.py BQSIM",
     "tests/seeds.py BQSIM 3 5",
     "tests/one_verdict.py BQSIM 400",
