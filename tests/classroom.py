@@ -1,7 +1,7 @@
 #!/usr/bin/env python3
 """Plays a class with examples/lab/grade.py: a student who follows each lab, students who cheat, and a teacher who reads only JSON.
 
-    tests/classroom.py BQSIM [PART..] [SEED..]     all parts, or those that are named; the seeds of the drawings, 1 if none is given
+    tests/classroom.py BQSIM [PART..] [SEED..]     all parts, or those that are named; the seeds of the exams, 1 if none is given
 
 student: clones the tree with core.autocrlf=true, as on Windows, and runs there each command of the labs' pages, one page after the other.
 cheats: hands in each file of tests/cheats/LAB, and links, pipes, images, odd names and more. None may get a point, end with status 0, show a text of
@@ -323,6 +323,9 @@ BAD_WORDS = """
 --workload hidden.toml --must cpu>=1% --seeds 0 x
 --workload hidden.toml --task editor --want 0:p95<=1ms x
 --workload hidden.toml --task editor --want x:p95<=1ms x
+--workload hidden.toml --task editor --want ²:p95<=1ms x
+--workload hidden.toml --task editor --want 1001:p95<=1ms x
+--workload hidden.toml --task editor --want 1:p95<=1ms:2 x
 --seed -1 x
 --seed 9223372036854775808 x
 --seed x x

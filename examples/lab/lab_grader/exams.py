@@ -72,7 +72,7 @@ def points_of(text):
     number, colon, aim = text.partition(":")
     if not colon:
         return 1, text
-    if not number.strip().isdigit() or not 1 <= int(number) <= 1000:
+    if not re.fullmatch(r"\s*0*[1-9][0-9]{0,2}\s*|\s*1000\s*", number):
         raise BadExam(f"{text!r}: the points before the colon are a whole number from 1 to 1000")
     return int(number), aim
 
