@@ -116,9 +116,10 @@ def clone(folder):
             to.parent.mkdir(exist_ok=True)
             shutil.copy(source, to)
     git = ["git", "-c", "user.name=teacher", "-c", "user.email=teacher@localhost", "-c", "init.defaultBranch=main"]
-    for words in (["init", "-q"], ["add", "-A"], ["commit", "-qm", "the tree"]):
-        subprocess.run([*git, *words], cwd=origin, check=True, capture_output=True)
-    subprocess.run([*git, "clone", "-q", "-c", "core.autocrlf=true", str(origin), str(copy)], check=True, capture_output=True)
+    own = {name: value for name, value in os.environ.items() if not name.startswith("GIT_")}
+    own.update(GIT_CONFIG_GLOBAL=os.devnull, GIT_CONFIG_SYSTEM=os.devnull)
+    for words in (["init", "-q"], ["add", "-A"], ["commit", "-qm", "the tree"], ["clone", "-q", "-c", "core.autocrlf=true", ".", str(copy)]):
+        subprocess.run([*git, *words], cwd=origin, env=own, check=True, capture_output=True)
     return copy
 
 
